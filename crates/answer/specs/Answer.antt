@@ -1,0 +1,63 @@
+-- The numbered grounds for turning a call down (document 01), and what an answer says by them. Assumes nothing.
+use Prim.Native.Nat.{ℕ}
+use Rattle.answer.specs.declared.Ground.{Ground}
+use Rattle.answer.specs.declared.Ground.the-variants.{TextLength, UnknownByte, ClosesNothing, NeverClosed, DeckLayout, PairIndex, PairReachedTwice, PairNeverReached, NumberNotGiven, PresenceAsAsked, ScoreRange, NoPairs, SeedLimit, PairLimit, OutsideTree, NotRising, AncestryDiffers, LastNotAncestor, BorderUnpaired, ChangeLimit, ScratchShort, OutputShort}
+use Rattle.answer.specs.declared.Place.{Place}
+use Rattle.answer.specs.declared.Answer.{Answer}
+use Rattle.answer.specs.declared.Answer.the-variants.{Accepted, Refused}
+
+-- The number of a ground.
+abbrev pub numberOf : Ground → ℕ
+-- A text has length 0 or above 255.
+numberOf TextLength = 1
+-- A byte is not dot, "(" or ")".
+numberOf UnknownByte = 2
+-- A ")" closes nothing.
+numberOf ClosesNothing = 3
+-- A "(" is never closed.
+numberOf NeverClosed = 4
+-- A deck is under 4 bytes, or its counts, zero byte or length break the layout.
+numberOf DeckLayout = 5
+-- A seed's first index is 0, or an index is above K.
+numberOf PairIndex = 6
+-- A walk reaches a pair record reached before.
+numberOf PairReachedTwice = 7
+-- Some pair record is never reached.
+numberOf PairNeverReached = 8
+-- A seed number was never given out.
+numberOf NumberNotGiven = 9
+-- A withdrawn seed is withdrawn or a present one brought back.
+numberOf PresenceAsAsked = 10
+-- A score is out of range.
+numberOf ScoreRange = 11
+-- An added seed has no pairs.
+numberOf NoPairs = 12
+-- The session has had 64 seeds.
+numberOf SeedLimit = 13
+-- The pairs would pass 1,024.
+numberOf PairLimit = 14
+-- A node number is not in its tree, or a run is not a stretch.
+numberOf OutsideTree = 15
+-- The q or the t are not strictly rising.
+numberOf NotRising = 16
+-- Ancestry differs between two pairs.
+numberOf AncestryDiffers = 17
+-- The last pair is not an ancestor of all others.
+numberOf LastNotAncestor = 18
+-- A border node is unpaired.
+numberOf BorderUnpaired = 19
+-- The change count is 1,000,000 and the call would add to it.
+numberOf ChangeLimit = 20
+-- The scratch is too short.
+numberOf ScratchShort = 21
+-- The output is shorter than what is to be written.
+numberOf OutputShort = 22
+
+-- What an answer says: the call is accepted, or it is refused on the ground of this number at this place.
+pub data Said : Type 0 where
+  accepted : Said
+  refused : ℕ → Place → Said
+
+abbrev pub said : Answer → Said
+said Accepted = accepted
+said (Refused ground place) = refused (numberOf ground) place

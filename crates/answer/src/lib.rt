@@ -1,0 +1,72 @@
+// What every call answers: accepted, or refused on a numbered ground at a place.
+ghost use mathlib.Core.Path.{_≡_};
+ghost use Rattle.answer.specs.Answer.{numberOf};
+
+// The grounds for turning a call down, in the order of their numbers.
+pub enum Ground {
+    TextLength,
+    UnknownByte,
+    ClosesNothing,
+    NeverClosed,
+    DeckLayout,
+    PairIndex,
+    PairReachedTwice,
+    PairNeverReached,
+    NumberNotGiven,
+    PresenceAsAsked,
+    ScoreRange,
+    NoPairs,
+    SeedLimit,
+    PairLimit,
+    OutsideTree,
+    NotRising,
+    AncestryDiffers,
+    LastNotAncestor,
+    BorderUnpaired,
+    ChangeLimit,
+    ScratchShort,
+    OutputShort,
+}
+
+// Where a ground was met: a byte position of Q or of T, counted from 0, a seed number, or nowhere that could be named.
+pub enum Place {
+    ByteInQ(usize),
+    ByteInT(usize),
+    Seed(usize),
+    Nothing,
+}
+
+pub enum Answer {
+    Accepted,
+    Refused { ground: Ground, place: Place },
+}
+
+// The number that stands for a ground in what is printed.
+pub fn number(ground: Ground) -> usize
+    ensures { λ r. ⌜ r ≡ numberOf ground ⌝ }
+{
+    match ground {
+        Ground::TextLength => 1,
+        Ground::UnknownByte => 2,
+        Ground::ClosesNothing => 3,
+        Ground::NeverClosed => 4,
+        Ground::DeckLayout => 5,
+        Ground::PairIndex => 6,
+        Ground::PairReachedTwice => 7,
+        Ground::PairNeverReached => 8,
+        Ground::NumberNotGiven => 9,
+        Ground::PresenceAsAsked => 10,
+        Ground::ScoreRange => 11,
+        Ground::NoPairs => 12,
+        Ground::SeedLimit => 13,
+        Ground::PairLimit => 14,
+        Ground::OutsideTree => 15,
+        Ground::NotRising => 16,
+        Ground::AncestryDiffers => 17,
+        Ground::LastNotAncestor => 18,
+        Ground::BorderUnpaired => 19,
+        Ground::ChangeLimit => 20,
+        Ground::ScratchShort => 21,
+        Ground::OutputShort => 22,
+    }
+}

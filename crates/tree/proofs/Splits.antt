@@ -1,0 +1,121 @@
+-- A text splits into runs, and the run that it begins with is read item by item. Assumes nothing.
+use mathlib.Core.Path.{_≡_, refl, sym, ap, ap₂, _∙_}
+use mathlib.Core.Bool.{Bool, true, false, true≢false, false≢true}
+use Prim.Native.Nat.{ℕ, _≤_, _<_}
+use native.Mathlib.Omega.{arith}
+use mathlib.Core.List.{List, [], _∷_, _++_, append-assoc}
+use lib.ListN.{length, getD, drop, length-append}
+use Rattle.tree.specs.Run.{Run, spell, size}
+use Rattle.tree.specs.Run.Run.{end, dot, pair}
+use Rattle.tree.specs.Reading.{meaningOf, Runs, first, onto, runs, itemOf, restOf}
+use Rattle.tree.specs.Reading.Runs.{last, more}
+use Rattle.tree.specs.declared.character.Meaning.{Meaning}
+use Rattle.tree.specs.declared.character.Meaning.the-variants.{Unpaired, Opening, Closing, Refused}
+
+-- What follows the last run of a text.
+pub data Stop : List ℕ → Type 0 where
+  none : Stop []
+  open-at : {c : ℕ} {t : List ℕ} {q : Run} → meaningOf c ≡ Opening → runs t ≡ last q → Stop (c ∷ t)
+  bad-at : {c : ℕ} {t : List ℕ} → meaningOf c ≡ Refused → Stop (c ∷ t)
+
+-- A text splits into runs, a closing bracket between any two of them.
+abbrev pub Splits : Runs → List ℕ → Type 0
+Splits (last r) s = (t : List ℕ) × (s ≡ spell r ++ t) × Stop t
+Splits (more r c rs) s = (t : List ℕ) × (s ≡ spell r ++ c ∷ t) × (meaningOf c ≡ Closing) × (runs t ≡ rs) × Splits rs t
+
+splits-onto : (x : ℕ) (s : List ℕ) (m : Meaning) → meaningOf x ≡ m → (rs : Runs) → runs s ≡ rs → Splits rs s → Splits (onto m x rs) (x ∷ s)
+splits-onto x s Unpaired k (last r) f w = (w .0, (cc), w .2)
+splits-onto x s Unpaired k (more r c rs) f w = (w .0, (cc), w .2, w .3, w .4)
+splits-onto x s Opening k (last r) f w = (x ∷ s, refl, open-at k f)
+splits-onto x s Opening k (more r c (last q)) f w = (w .4 .0, cc (append-assoc (spell r) (c ∷ spell q) (w .4 .0)), w .4 .2)
+splits-onto x s Opening k (more r c (more q d rs)) f w = (w .4 .0, cc (append-assoc (spell r) (c ∷ spell q) (d ∷ w .4 .0)), w .4 .2, w .4 .3, w .4 .4)
+splits-onto x s Closing k rs f w = (s, refl, k, f, w)
+splits-onto x s Refused k rs f w = (x ∷ s, refl, bad-at k)
+
+pub splits : (s : List ℕ) → Splits (runs s) s
+splits [] = ([], refl, none)
+splits (c ∷ s) = splits-onto c s (meaningOf c) refl (runs s) refl (splits s)
+
+-- A text begins with the run that is read from it.
+begins : (s : List ℕ) (rs : Runs) → Splits rs s → (t : List ℕ) × (s ≡ spell (first rs) ++ t)
+begins s (last r) w = (w .0, w .1)
+begins s (more r c rs) w = (c ∷ w .0, w .1)
+
+pub first-fits : (s : List ℕ) → length (spell (first (runs s))) ≤ length s
+first-fits s = let w = begins s (runs s) (splits s) in
+    omega (arith, simp length-append at (ap length (w .1)))
+
+pub item-fits : (r : Run) → length (spell (itemOf r)) ≤ length (spell r)
+item-fits end = omega arith
+item-fits (dot c r) = omega arith
+item-fits (pair o i c r) = omega (arith, length-append (spell i) (c ∷ []), length-append (spell i) (c ∷ spell r))
+
+pub size-spell : (r : Run) → size r ≤ length (spell r)
+size-spell end = omega arith
+size-spell (dot c r) = omega (arith, size-spell r)
+size-spell (pair o i c r) = omega (arith, size-spell i, size-spell r, length-append (spell i) (c ∷ spell r))
+
+-- Whether the run that a text begins with is ended by a closing bracket.
+abbrev pub ended : Runs → Bool
+ended (last r) = false
+ended (more r c rs) = true
+
+stop-closing : (t : List ℕ) → Stop t → 0 < length t → meaningOf (getD t 0 0) ≡ Closing → ⊥
+stop-closing [] none h e = omega arith
+stop-closing (c ∷ t) (open-at k f) h e = let z : _≡_ {A = ℕ} 0 1 = cc in omega arith
+stop-closing (c ∷ t) (bad-at k) h e = let z : _≡_ {A = ℕ} 0 1 = cc in omega arith
+
+seam : (a t : List ℕ) → getD (a ++ t) (length a) 0 ≡ getD t 0 0
+seam [] t = refl
+seam (x ∷ a) t = seam a t
+
+pub after : (s a t : List ℕ) → s ≡ a ++ t → getD s (length a) 0 ≡ getD t 0 0
+after s a t e = ap (λ (l : List ℕ). getD l (length a) 0) e ∙ seam a t
+
+-- The byte at which a run stops tells whether a closing bracket ends it.
+pub ended-end : (s : List ℕ) (rs : Runs) → Splits rs s → length s ≤ length (spell (first rs)) → ended rs ≡ false
+ended-end s (last r) w h = refl
+ended-end s (more r c rs) w h = absurd (omega (arith, length-append (spell r) (c ∷ w .0), ap length (w .1)))
+
+pub ended-closing : (s : List ℕ) (rs : Runs) → Splits rs s → length (spell (first rs)) < length s → meaningOf (getD s (length (spell (first rs))) 0) ≡ Closing → ended rs ≡ true
+ended-closing s (last r) w h e = absurd (stop-closing (w .0) (w .2) (omega (arith, length-append (spell r) (w .0), ap length (w .1))) (sym (ap meaningOf (after s (spell r) (w .0) (w .1))) ∙ e))
+ended-closing s (more r c rs) w h e = refl
+
+pub ended-other : (s : List ℕ) (rs : Runs) → Splits rs s → (meaningOf (getD s (length (spell (first rs))) 0) ≡ Closing → ⊥) → ended rs ≡ false
+ended-other s (last r) w e = refl
+ended-other s (more r c rs) w e = absurd (e (ap meaningOf (after s (spell r) (c ∷ w .0) (w .1)) ∙ w .2))
+
+pub onto-open : (x : ℕ) (rs : Runs) → ended rs ≡ false → onto Opening x rs ≡ last end
+onto-open x (last r) e = refl
+onto-open x (more r c rs) e = absurd (true≢false e)
+
+-- The closing bracket that ends a run.
+abbrev pub closer : Runs → ℕ
+closer (last r) = 0
+closer (more r c rs) = c
+
+pub onto-pair : (x : ℕ) (rs : Runs) → ended rs ≡ true → itemOf (first (onto Opening x rs)) ≡ pair x (first rs) (closer rs) end
+onto-pair x (last r) e = absurd (false≢true e)
+onto-pair x (more r c (last q)) e = refl
+onto-pair x (more r c (more q d rs)) e = refl
+
+past : (a : List ℕ) (x : ℕ) (t : List ℕ) → drop (length (a ++ x ∷ [])) (a ++ x ∷ t) ≡ t
+past [] x t = refl
+past (y ∷ a) x t = past a x t
+
+pub drop-past : (s a : List ℕ) (x : ℕ) (t : List ℕ) → s ≡ a ++ x ∷ t → drop (length (a ++ x ∷ [])) s ≡ t
+drop-past s a x t e = ap (λ (l : List ℕ). drop (length (a ++ x ∷ [])) l) e ∙ past a x t
+
+-- What follows the item that is read first is read as the rest of the run.
+pub rest-read : (s : List ℕ) → first (runs (drop (length (spell (itemOf (first (runs s))))) s)) ≡ restOf (first (runs s))
+rest-read [] = refl
+rest-read (c ∷ s) = go (meaningOf c) refl (runs s) refl (splits s)
+  where
+    go : (m : Meaning) → meaningOf c ≡ m → (rs : Runs) → runs s ≡ rs → Splits rs s → first (runs (drop (length (spell (itemOf (first (onto m c rs))))) (c ∷ s))) ≡ restOf (first (onto m c rs))
+    go Unpaired e (last r) f w = ap first f
+    go Unpaired e (more r d rs) f w = ap first f
+    go Opening e (last r) f w = ap first (ap₂ (λ (m : Meaning) (x : Runs). onto m c x) e f)
+    go Opening e (more r d (last q)) f w = ap first (ap runs (drop-past s (spell r) d (w .0) (w .1)) ∙ w .3)
+    go Opening e (more r d (more q d₂ rs)) f w = ap first (ap runs (drop-past s (spell r) d (w .0) (w .1)) ∙ w .3)
+    go Closing e rs f w = ap (λ (m : Meaning). first (onto m c (runs s))) e
+    go Refused e rs f w = ap (λ (m : Meaning). first (onto m c (runs s))) e

@@ -1,0 +1,112 @@
+-- What reading a whole text answers, in each case of the code. Assumes nothing.
+use mathlib.Core.Path.{_≡_, refl, sym, ap, _∙_}
+use mathlib.Core.Bool.{true, false}
+use mathlib.Core.Logic.{_⊎_, ⊎-elim}
+use Prim.Native.Nat.{ℕ, zero, suc, _+_, _-_, _≤_, _<_}
+use native.Mathlib.Omega.{arith}
+use native.Mathlib.Nat.{zero-add, sub-zero}
+use mathlib.Core.List.{List, [], _∷_, _++_, append-assoc}
+use lib.ListN.{length, getD, drop, replicate, length-replicate}
+use lib.Seq.{sets, sets-eq}
+use lib.Dec.{eqb, ltb}
+use borrow.Author.Tests.{eq-eqb, ne-eqb, lt-ltb, le-ltb}
+use Rattle.answer.specs.declared.Ground.{Ground}
+use Rattle.answer.specs.declared.Ground.the-variants.{TextLength, UnknownByte, ClosesNothing, NeverClosed}
+use Rattle.answer.specs.declared.Answer.the-variants.{Accepted}
+use Rattle.tree.specs.Run.{Run, spell, size, leftsFrom, lefts}
+use Rattle.tree.specs.Reading.{meaningOf, first, runs, grown, Ready, firstRefused, Reading, badLength, groundAt, stopped, reading, readOf}
+use Rattle.tree.specs.Reading.Reading.{accepted, refused}
+use Rattle.tree.specs.declared.character.Meaning.{Meaning}
+use Rattle.tree.specs.declared.character.Meaning.the-variants.{Unpaired, Opening, Closing, Refused}
+use Rattle.tree.specs.declared.run.Built.{Built}
+use Rattle.tree.specs.declared.TreeRead.{TreeRead}
+use Rattle.tree.proofs.Meanings.{tag}
+use Rattle.tree.proofs.Leaves.{length-lefts}
+use Rattle.tree.proofs.Lengths.{length-few}
+use Rattle.tree.proofs.Splits.{first-fits, size-spell}
+
+abbrev pub zeros : ℕ → List ℕ
+zeros n = replicate n 0
+
+drop-zeros : (k n : ℕ) → drop k (zeros n) ≡ zeros (n - k)
+drop-zeros zero n = ap zeros (sym (sub-zero n))
+drop-zeros (suc k) zero = let e : 0 ≡ 0 - suc k = omega arith in ap zeros e
+drop-zeros (suc k) (suc n) = let e : n - k ≡ suc n - suc k = omega arith in drop-zeros k n ∙ ap zeros e
+
+-- The leftmost leaves written over zeros, and the added root's, which is a zero already.
+padded : (m : ℕ) (r : Run) → size r ≤ m → sets (zeros (suc m)) 0 (leftsFrom 0 r) ≡ lefts r ++ zeros (m - size r)
+padded m r h =
+    let vs : List ℕ = leftsFrom 0 r in
+    let fits : 0 + length vs ≤ length (zeros (suc m)) = omega (arith, length-replicate {A = ℕ} (suc m) 0, length-lefts 0 r) in
+    let e : suc m - (0 + length vs) ≡ suc (m - size r) = omega (arith, length-lefts 0 r) in
+    sets-eq vs (zeros (suc m)) 0 fits
+    ∙ ap (λ (l : List ℕ). vs ++ l)
+    (drop-zeros (0 + length vs) (suc m) ∙ ap zeros e)
+    ∙ sym (append-assoc vs (0 ∷ []) (zeros (m - size r)))
+
+-- Nothing is built yet.
+abbrev pub start : Built
+start = record { at = 0; n = 0; left = zeros 256 }
+
+ground-other : (m : Meaning) → (tag m ≡ 0) ⊎ ((tag m ≡ 1) ⊎ (tag m ≡ 3)) → groundAt m ≡ NeverClosed
+ground-other Unpaired h = refl
+ground-other Opening h = refl
+ground-other Closing h = absurd (⊎-elim (λ x. omega arith) (⊎-elim (λ x. omega arith) (λ x. omega arith)) h)
+ground-other Refused h = refl
+
+read-tree : (n n′ : ℕ) (l l′ : List ℕ) → n ≡ n′ → l ≡ l′ → _≡_ {A = TreeRead} (record { answer = Accepted; tree = record { n = n + 1; left = l } }) (record { answer = Accepted; tree = record { n = n′ + 1; left = l′ } })
+read-tree n n′ l l′ p q = λ j. record { answer = Accepted; tree = record { n = p j + 1; left = q j } }
+
+module _ (s : List ℕ) where
+  pub read-length : badLength (length s) ≡ true → reading s ≡ refused TextLength 0
+  unfolding reading
+  read-length h = rw h
+
+  module _ (fits : badLength (length s) ≡ false) where
+    pub read-ready : Ready s start
+    read-ready = record { short = length-few (length s) fits; inside = omega arith; fewer = omega arith }
+
+    module _ (u : ℕ) (unknown : u ≡ firstRefused s) where
+      pub read-unknown : u < length s → reading s ≡ refused UnknownByte u
+      unfolding reading
+      read-unknown h = rw (fits, ← unknown, lt-ltb u (length s) h)
+
+      module _ (clean : length s ≤ u) where
+        pub read-stopped : reading s ≡ stopped s (first (runs s))
+        unfolding reading
+        read-stopped = rw (fits, ← unknown, le-ltb u (length s) clean)
+
+        module _ (x : Built) (is : x ≡ grown start (first (runs s))) where
+          at-stop : x .at ≡ length (spell (first (runs s)))
+          at-stop = ap (λ (y : Built). y .at) is ∙ zero-add (length (spell (first (runs s))))
+
+          pub read-inside : (x .at ≡ length s → ⊥) → x .at < length s
+          read-inside ne = omega (arith, first-fits s, at-stop)
+
+          few : size (first (runs s)) ≤ 255
+          few = omega (arith, size-spell (first (runs s)), first-fits s, length-few (length s) fits)
+
+          pub read-few : x .n ≤ 255
+          read-few = omega (arith, ap (λ (y : Built). y .n) is, few)
+
+          pub read-all : x .at ≡ length s → _≡_ {A = TreeRead} (record { answer = Accepted; tree = record { n = x .n + 1; left = x .left } }) (readOf (reading s))
+          read-all e =
+              let r : Run = first (runs s) in
+              let st : stopped s r ≡ accepted r = rw (eq-eqb (length (spell r)) (length s) (sym at-stop ∙ e)) in
+              read-tree (x .n) (size r) (x .left) (lefts r ++ zeros (255 - size r)) (ap (λ (y : Built). y .n) is ∙ zero-add (size r)) (ap (λ (y : Built). y .left) is ∙ padded 255 r few)
+              ∙ sym (ap readOf (read-stopped ∙ st))
+
+          module _ (ne : x .at ≡ length s → ⊥) (m : Meaning) (means : m ≡ meaningOf (getD s (x .at) 0)) where
+            at-other : reading s ≡ refused (groundAt m) (x .at)
+            at-other =
+                let r : Run = first (runs s) in
+                let st : stopped s r ≡ refused (groundAt (meaningOf (getD s (length (spell r)) 0))) (length (spell r)) = rw (ne-eqb (length (spell r)) (length s) (λ h. ne (at-stop ∙ h))) in
+                read-stopped ∙ st
+                ∙ ap (λ (k : ℕ). refused (groundAt (meaningOf (getD s k 0))) k) (sym at-stop)
+                ∙ ap (λ (k : Meaning). refused (groundAt k) (x .at)) (sym means)
+
+            pub read-closing : m ≡ Closing → reading s ≡ refused ClosesNothing (x .at)
+            read-closing f = at-other ∙ ap (λ (k : Meaning). refused (groundAt k) (x .at)) f
+
+            pub read-opening : (tag m ≡ 0) ⊎ ((tag m ≡ 1) ⊎ (tag m ≡ 3)) → reading s ≡ refused NeverClosed (x .at)
+            read-opening h = at-other ∙ ap (λ (k : Ground). refused k (x .at)) (ground-other m h)

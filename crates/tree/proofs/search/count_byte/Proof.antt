@@ -1,0 +1,47 @@
+-- `tree::search::count_byte` meets its contract. Assumes nothing.
+use native.Mathlib.Omega.{arith}
+use Rattle.tree.proofs.Scans.{one-end, two-bytes, count-low, count-high}
+use borrow.Author.Needs.{needs}
+use Rattle.tree.proofs.search.count_byte.Statement.{statement}
+use Rattle.tree.proofs.search.count_byte.Tie as tie
+
+meaning-of-requires : tie.Need-meaning-of-requires
+meaning-of-requires c κs = search needs
+
+ends-of-requires : tie.Need-ends-of-requires
+ends-of-requires c κs = search needs
+
+add-nodes : tie.Need-add-nodes
+add-nodes c = omega (arith, (c .before .ends-of .ensures), one-end (c .before .before .meaning-of .result))
+
+add-t8 : tie.Need-add-t8
+add-t8 c = search needs
+
+returns : tie.Need-returns
+returns c = count-low _ _ (c .before .before .before .before .before .before .args .byte) _ (c .before .before .before .before .before .meaning-of .ensures) _ (c .before .before .before .before .ends-of .ensures) (c .before .if1 .taken)
+
+add-t6 : tie.Need-add-t6
+add-t6 c = search needs
+
+bytes-of-requires : tie.Need-bytes-of-requires
+bytes-of-requires c κs = search needs
+
+add-t10 : tie.Need-add-t10
+add-t10 c = omega (arith, (c .before .bytes-of .ensures), one-end (c .before .before .before .before .before .before .before .meaning-of .result), two-bytes (c .before .before .before .before .before .before .before .meaning-of .result))
+
+returns-2 : tie.Need-returns-2
+returns-2 c = count-high _ _ (c .before .before .before .before .before .before .before .before .args .byte) _ (c .before .before .before .before .before .before .before .meaning-of .ensures) _ (c .before .before .before .before .before .before .ends-of .ensures) (c .before .before .before .if1 .left) _ (c .before .bytes-of .ensures)
+
+pub count-byte-spec : {M : Type 1} → statement M
+count-byte-spec =
+    tie.close
+    (tie.spec
+    meaning-of-requires
+    ends-of-requires
+    add-nodes
+    add-t8
+    returns
+    add-t6
+    bytes-of-requires
+    add-t10
+    returns-2)

@@ -1,0 +1,24 @@
+-- `tree::stretch` meets its contract: the bytes located spell the stretch. Assumes nothing.
+use Rattle.tree.proofs.Searches.{part-of}
+use borrow.Author.Needs.{needs}
+use Rattle.tree.proofs.stretch.Statement.{statement}
+use Rattle.tree.proofs.stretch.Tie as tie
+
+locate-requires : tie.Need-locate-requires
+locate-requires c κs = search needs
+
+sub-result : tie.Need-sub-result
+sub-result c = part-of _ _ _ _ (c .locate .ensures) .order
+
+part-result-start : tie.Need-part-result-start
+part-result-start c = part-of _ _ _ _ (c .locate .ensures) .order
+
+part-result-end : tie.Need-part-result-end
+part-result-end c = part-of _ _ _ _ (c .locate .ensures) .inside
+
+returns : tie.Need-returns
+returns c = part-of _ _ _ _ (c .before .locate .ensures) .is
+
+pub stretch-spec : {M : Type 1} → statement M
+stretch-spec =
+    tie.close (tie.spec locate-requires sub-result part-result-start part-result-end returns)

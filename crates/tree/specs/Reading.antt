@@ -1,0 +1,138 @@
+-- What reading a text must answer (document 01, "Structures as trees", grounds 1 to 4). Assumes nothing.
+use mathlib.Core.Path.{_≡_}
+use mathlib.Core.Bool.{Bool, true, false, cond}
+use Prim.Native.Nat.{ℕ, suc, _+_, _-_, _≤_}
+use mathlib.Core.List.{List, [], _∷_, _++_}
+use lib.ListN.{length, getD, replicate}
+use lib.Seq.{sets}
+use lib.Dec.{eqb, ltb}
+use Rattle.answer.specs.declared.Ground.{Ground}
+use Rattle.answer.specs.declared.Ground.the-variants.{TextLength, UnknownByte, ClosesNothing, NeverClosed}
+use Rattle.answer.specs.declared.Place.the-variants.{ByteInQ}
+use Rattle.answer.specs.declared.Answer.{Answer}
+use Rattle.answer.specs.declared.Answer.the-variants as answer
+use Rattle.tree.specs.Run.{Run, spell, size, leftsFrom, lefts}
+use Rattle.tree.specs.Run.Run.{end, dot, pair}
+use Rattle.tree.specs.declared.character.Meaning.{Meaning}
+use Rattle.tree.specs.declared.character.Meaning.the-variants.{Unpaired, Opening, Closing, Refused}
+use Rattle.tree.specs.declared.run.Built.{Built}
+use Rattle.tree.specs.declared.Tree.{Tree}
+use Rattle.tree.specs.declared.TreeRead.{TreeRead}
+
+-- What one byte means.
+abbrev pub meaningOf : ℕ → Meaning
+meaningOf b = cond (eqb b 46) Unpaired (cond (eqb b 40) Opening (cond (eqb b 41) Closing Refused))
+
+-- The bytes of a run mean what they stand for in it.
+abbrev pub Meant : Run → Type 0
+Meant end = Unit {0}
+Meant (dot c r) = (meaningOf c ≡ Unpaired) × Meant r
+Meant (pair o i c r) = (meaningOf o ≡ Opening) × Meant i × (meaningOf c ≡ Closing) × Meant r
+
+-- The runs that a text splits into at the closing bytes that close nothing in it. What follows the last run is the end of the text, an
+-- opening byte that is never closed, or a refused byte.
+pub data Runs : Type 0 where
+  last : Run → Runs
+  more : Run → ℕ → Runs → Runs
+
+abbrev pub first : Runs → Run
+first (last r) = r
+first (more r c rs) = r
+
+-- The runs of a text with one byte more in front.
+abbrev pub onto : Meaning → ℕ → Runs → Runs
+onto Unpaired x (last r) = last (dot x r)
+onto Unpaired x (more r c rs) = more (dot x r) c rs
+onto Opening x (last r) = last end
+onto Opening x (more r c (last q)) = last (pair x r c q)
+onto Opening x (more r c (more q d rs)) = more (pair x r c q) d rs
+onto Closing x rs = more end x rs
+onto Refused x rs = last end
+
+abbrev pub runs : List ℕ → Runs
+runs [] = last end
+runs (c ∷ s) = onto (meaningOf c) c (runs s)
+
+-- The first item of a run by itself, and what follows it.
+abbrev pub itemOf : Run → Run
+itemOf end = end
+itemOf (dot c r) = dot c end
+itemOf (pair o i c r) = pair o i c end
+
+abbrev pub restOf : Run → Run
+restOf end = end
+restOf (dot c r) = r
+restOf (pair o i c r) = r
+
+-- What is built once a run more is read: its bytes are passed, its nodes numbered on, and their leftmost leaves written.
+abbrev pub grown : Built → Run → Built
+grown b r = record { at = b .at + length (spell r); n = b .n + size r; left = sets (b .left) (b .n) (leftsFrom (b .n) r) }
+
+-- Where a run can be read: at a byte of a text of at most 255, with no more nodes before it than bytes.
+pub record Ready (s : List ℕ) (b : Built) : Type 0 where
+  pub short : length s ≤ 255
+  pub inside : b .at ≤ length s
+  pub fewer : b .n ≤ b .at
+
+-- Where the first refused byte stands, or the text's length.
+abbrev pub orNext : Meaning → ℕ → ℕ
+orNext Unpaired n = suc n
+orNext Opening n = suc n
+orNext Closing n = suc n
+orNext Refused n = 0
+
+abbrev pub firstRefused : List ℕ → ℕ
+firstRefused [] = 0
+firstRefused (c ∷ s) = orNext (meaningOf c) (firstRefused s)
+
+-- A text is accepted with its run, or refused on a ground at a byte.
+pub data Reading : Type 0 where
+  accepted : Run → Reading
+  refused : Ground → ℕ → Reading
+
+abbrev pub pick : Bool → Reading → Reading → Reading
+pick true x y = x
+pick false x y = y
+
+-- The length on which ground 1 turns a text down: 0 or above 255.
+unfoldable pub badLength : ℕ → Bool
+badLength n = cond (eqb n 0) true (ltb 255 n)
+
+-- The ground at a byte that no run goes past.
+abbrev pub groundAt : Meaning → Ground
+groundAt Unpaired = NeverClosed
+groundAt Opening = NeverClosed
+groundAt Closing = ClosesNothing
+groundAt Refused = NeverClosed
+
+-- The run that a text begins with is all of it, or stops at a closing byte that closes nothing or an opening one that is never closed.
+abbrev pub stopped : List ℕ → Run → Reading
+stopped s r = pick (eqb (length (spell r)) (length s)) (accepted r) (refused (groundAt (meaningOf (getD s (length (spell r)) 0))) (length (spell r)))
+
+unfoldable pub reading : List ℕ → Reading
+reading s =
+    pick (badLength (length s)) (refused TextLength 0)
+    (pick (ltb (firstRefused s) (length s)) (refused UnknownByte (firstRefused s)) (stopped s (first (runs s))))
+
+-- The tree of a run: its nodes and the added root, and zeros up to 256 numbers.
+abbrev pub treeOf : Run → Tree
+treeOf r = record { n = size r + 1; left = lefts r ++ replicate (255 - size r) 0 }
+
+-- The run that the text "." spells: its tree stands beside a refusal.
+abbrev pub single : Run
+single = dot 46 end
+
+-- A call on one text names it Q.
+abbrev pub answerOf : Reading → Answer
+answerOf (accepted r) = answer.Accepted
+answerOf (refused g k) = answer.Refused g (ByteInQ k)
+
+abbrev pub readOf : Reading → TreeRead
+readOf (accepted r) = record { answer = answerOf (accepted r); tree = treeOf r }
+readOf (refused g k) = record { answer = answerOf (refused g k); tree = treeOf single }
+
+-- A tree that a reading hands over.
+pub record IsTree (t : Tree) : Type 0 where
+  pub run : Run
+  pub few : size run ≤ 255
+  pub is : t ≡ treeOf run

@@ -1,0 +1,111 @@
+// Structures in dot-bracket form: a text read into a tree, and the part of a text that spells a run of nodes.
+mod character;
+mod run;
+mod search;
+
+use answer::Answer;
+use answer::Ground;
+use answer::Place;
+use character::Meaning;
+use character::first_refused;
+use character::meaning_of;
+use run::Built;
+use run::read_run;
+use search::locate;
+ghost use mathlib.Core.Path.{_≡_};
+ghost use Rattle.tree.specs.Reading.{Reading, badLength, reading, readOf, treeOf, single};
+ghost use Rattle.tree.specs.Stretch.{partOf, checkOf};
+
+// The nodes of a structure, numbered from 0 in postfix order: how many, and the leftmost leaf of each.
+pub struct Tree {
+    pub n: usize,
+    pub left: [u8; 256],
+}
+
+pub struct TreeRead {
+    pub answer: Answer,
+    pub tree: Tree,
+}
+
+fn bad_length(len: usize) -> bool
+    ensures { λ r. ⌜ r ≡ badLength len ⌝ }
+{
+    if len == 0 {
+        return true;
+    }
+    255 < len
+}
+
+// The tree of ".", which stands beside a refusal.
+fn single_tree() -> Tree
+    ensures { λ r. ⌜ r ≡ treeOf single ⌝ }
+{
+    Tree {
+        n: 2,
+        left: [0u8; 256],
+    }
+}
+
+fn refused(ground: Ground, at: usize) -> TreeRead
+    ensures { λ r. ⌜ r ≡ readOf (Reading.refused ground at) ⌝ }
+{
+    TreeRead {
+        answer: Answer::Refused {
+            ground,
+            place: Place::ByteInQ(at),
+        },
+        tree: single_tree(),
+    }
+}
+
+// The tree of a text, or the first refusal with its byte and the tree of ".".
+pub fn read(text: &[u8]) -> TreeRead
+    ensures { λ r. ⌜ r ≡ readOf (reading (now (text .entry))) ⌝ }
+{
+    let len = text.len();
+    if bad_length(len) {
+        return refused(Ground::TextLength, 0);
+    }
+    let unknown = first_refused(text);
+    if unknown < len {
+        return refused(Ground::UnknownByte, unknown);
+    }
+    let b = read_run(
+        text,
+        Built {
+            at: 0,
+            n: 0,
+            left: [0u8; 256],
+        },
+    );
+    let at = b.at;
+    if at == len {
+        let left = b.left;
+        return TreeRead {
+            answer: Answer::Accepted,
+            tree: Tree { n: b.n + 1, left },
+        };
+    }
+    let meaning = meaning_of(text[at]);
+    match meaning {
+        Meaning::Closing => refused(Ground::ClosesNothing, at),
+        _ => refused(Ground::NeverClosed, at),
+    }
+}
+
+// The part of the text that spells the nodes a to b, or the empty part at its start where `stretch_check` refuses.
+pub fn stretch(text: &[u8], a: usize, b: usize) -> &[u8]
+    ensures { λ r. ⌜ now r ≡ partOf (now (text .entry)) a b ⌝ }
+{
+    let part = locate(text, a, b);
+    let from = part.from;
+    let to = part.to;
+    &text[from..to]
+}
+
+// Whether the nodes a to b of the text are a stretch.
+pub fn stretch_check(text: &[u8], a: usize, b: usize) -> Answer
+    ensures { λ r. ⌜ r ≡ checkOf (now (text .entry)) a b ⌝ }
+{
+    locate(text, a, b).answer
+}
