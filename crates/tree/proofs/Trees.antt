@@ -3,12 +3,12 @@ use mathlib.Core.Path.{_≡_, refl, sym, ap, subst, _∙_}
 use Prim.Native.Nat.{ℕ, _+_, _-_, _≤_}
 use native.Mathlib.Omega.{arith}
 use mathlib.Core.List.{List}
-use lib.ListN.{length, take}
+use lib.ListN.{length}
 use lib.Seq.{take-at}
 use Rattle.tree.specs.Run.{Run, spell, size, lefts}
 use Rattle.tree.specs.Run.Run.{end, dot, pair}
 use Rattle.tree.specs.Nested.{leaf, Nested}
-use Rattle.tree.specs.Reading.{Reading, reading, readOf, treeOf, single, IsTree}
+use Rattle.tree.specs.Reading.{Reading, reading, readOf, treeOf, single, leavesOf, IsTree}
 use Rattle.tree.specs.Reading.Reading.{accepted, refused}
 use Rattle.tree.specs.declared.Tree.{Tree}
 use Rattle.tree.specs.declared.TreeRead.{TreeRead}
@@ -46,16 +46,16 @@ module _ (t : Tree) (h : IsTree t) where
   pub tree-nodes : (1 ≤ t .n) × (t .n ≤ 256)
   tree-nodes = (omega (arith, tree-size), omega (arith, tree-size, h .few))
 
-  pub tree-left : take (t .n) (t .left) ≡ lefts (h .run)
-  tree-left = ap (λ (x : Tree). take (x .n) (x .left)) (h .is) ∙ take-at (lefts (h .run)) _ (size (h .run) + 1) (length-all (h .run))
+  pub tree-left : leavesOf t ≡ lefts (h .run)
+  tree-left = ap leavesOf (h .is) ∙ take-at (lefts (h .run)) _ (size (h .run) + 1) (length-all (h .run))
 
-  pub tree-length : length (take (t .n) (t .left)) ≡ t .n
+  pub tree-length : length (leavesOf t) ≡ t .n
   tree-length = ap length tree-left ∙ length-all (h .run) ∙ sym tree-size
 
-  pub tree-nested : Nested (take (t .n) (t .left))
+  pub tree-nested : Nested (leavesOf t)
   tree-nested = subst Nested (sym tree-left) (nested (h .run))
 
-  pub tree-root : leaf (take (t .n) (t .left)) (t .n - 1) ≡ 0
+  pub tree-root : leaf (leavesOf t) (t .n - 1) ≡ 0
   tree-root =
       let e : t .n - 1 ≡ size (h .run) = omega (arith, tree-size) in
-      ap (leaf (take (t .n) (t .left))) e ∙ ap (λ (l : List ℕ). leaf l (size (h .run))) tree-left ∙ root-left (h .run)
+      ap (leaf (leavesOf t)) e ∙ ap (λ (l : List ℕ). leaf l (size (h .run))) tree-left ∙ root-left (h .run)

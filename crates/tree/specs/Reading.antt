@@ -3,7 +3,7 @@ use mathlib.Core.Path.{_≡_}
 use mathlib.Core.Bool.{Bool, true, false, cond}
 use Prim.Native.Nat.{ℕ, suc, _+_, _-_, _≤_}
 use mathlib.Core.List.{List, [], _∷_, _++_}
-use lib.ListN.{length, getD, replicate}
+use lib.ListN.{length, getD, take, replicate}
 use lib.Seq.{sets}
 use lib.Dec.{eqb, ltb}
 use Rattle.answer.specs.declared.Ground.{Ground}
@@ -130,6 +130,10 @@ answerOf (refused g k) = answer.Refused g (ByteInQ k)
 abbrev pub readOf : Reading → TreeRead
 readOf (accepted r) = record { answer = answerOf (accepted r); tree = treeOf r }
 readOf (refused g k) = record { answer = answerOf (refused g k); tree = treeOf single }
+
+-- The leftmost leaves of a tree's nodes.
+abbrev pub leavesOf : Tree → List ℕ
+leavesOf t = take (t .n) (t .left)
 
 -- A tree that a reading hands over.
 pub record IsTree (t : Tree) : Type 0 where
