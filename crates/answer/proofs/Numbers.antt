@@ -4,11 +4,9 @@ use Prim.Native.Nat.{ℕ}
 use native.Mathlib.Omega.{arith}
 use mathlib.Core.List.{List, [], _∷_}
 use lib.ListN.{getD}
-use Rattle.answer.specs.Answer.{numberOf, Said, said}
-use Rattle.answer.specs.Answer.Said.{accepted, refused}
+use Rattle.answer.specs.Answer.{numberOf, said}
 use Rattle.answer.specs.declared.Ground.{Ground}
 use Rattle.answer.specs.declared.Ground.the-variants.{TextLength, UnknownByte, ClosesNothing, NeverClosed, DeckLayout, PairIndex, PairReachedTwice, PairNeverReached, NumberNotGiven, PresenceAsAsked, ScoreRange, NoPairs, SeedLimit, PairLimit, OutsideTree, NotRising, AncestryDiffers, LastNotAncestor, BorderUnpaired, ChangeLimit, ScratchShort, OutputShort}
-use Rattle.answer.specs.declared.Place.{Place}
 use Rattle.answer.specs.declared.Answer.{Answer}
 use Rattle.answer.specs.declared.Answer.the-variants.{Accepted, Refused}
 

@@ -6,7 +6,7 @@ use lib.ListN.{replicate}
 use Rattle.answer.specs.Answer.{Said, said}
 use Rattle.answer.specs.Answer.Said.{accepted, refused}
 use Rattle.answer.specs.declared.Place.the-variants.{ByteInQ, Nothing}
-use Rattle.tree.specs.Run.{Run, lefts}
+use Rattle.tree.specs.Run.{lefts}
 use Rattle.tree.specs.Reading.{Reading, badLength, reading, answerOf}
 use Rattle.tree.specs.Stretch.{stretchIn, checkOf, partOf}
 

@@ -8,7 +8,6 @@ use mathlib.Core.List.{List, [], _∷_, _++_, append-nil}
 use lib.ListN.{length, getD, length-append}
 use borrow.Author.Tests.{eq-eqb, ne-eqb}
 use Rattle.answer.specs.Answer.{Said, said}
-use Rattle.answer.specs.declared.Ground.the-variants.{ClosesNothing, NeverClosed}
 use Rattle.answer.specs.declared.Place.the-variants.{ByteInQ}
 use Rattle.tree.specs.Run.{Run, spell}
 use Rattle.tree.specs.Reading.{meaningOf, Meant, Runs, first, runs, Reading, reading, answerOf, badLength, firstRefused, stopped, groundAt}
@@ -20,7 +19,7 @@ use Rattle.tree.specs.declared.character.Meaning.{Meaning}
 use Rattle.tree.specs.declared.character.Meaning.the-variants.{Opening, Closing}
 use Rattle.tree.proofs.Meanings.{clash}
 use Rattle.tree.proofs.Leaves.{lt-or-le}
-use Rattle.tree.proofs.FirstRefused.{refused-le, refused-there, refused-first, refused-never, within, Clean, clean, clean-front}
+use Rattle.tree.proofs.FirstRefused.{refused-there, refused-first, refused-never, within, Clean, clean, clean-front}
 use Rattle.tree.proofs.Splits.{Stop, Splits, splits, ended, after}
 use Rattle.tree.proofs.Splits.Stop.{none, open-at, bad-at}
 use Rattle.tree.proofs.Spelling.{read-spell, first-meant}

@@ -11,14 +11,15 @@ use lib.ListN.{length, getD, drop, set, length-append, length-drop, drop-of-leng
 use lib.Seq.{sets, drop-cons, drop-drop, getD-drop}
 use Rattle.tree.specs.Run.{Run, spell, size, leftsFrom}
 use Rattle.tree.specs.Run.Run.{end, dot, pair}
-use Rattle.tree.specs.Reading.{meaningOf, Runs, first, onto, runs, itemOf, restOf, grown, Ready}
+use Rattle.tree.specs.Reading.{meaningOf, Runs, first, onto, runs}
+use Rattle.tree.specs.Building.{itemOf, grown, Ready}
 use Rattle.tree.specs.Reading.Runs.{last, more}
 use Rattle.tree.specs.declared.character.Meaning.{Meaning}
 use Rattle.tree.specs.declared.character.Meaning.the-variants.{Unpaired, Opening, Closing, Refused}
 use Rattle.tree.specs.declared.run.Built.{Built}
 use Rattle.tree.proofs.Meanings.{tag, tag-not-closing}
 use Rattle.tree.proofs.Leaves.{length-lefts}
-use Rattle.tree.proofs.Splits.{splits, first-fits, item-fits, size-spell, ended, ended-end, ended-closing, ended-other, onto-open, closer, onto-pair, rest-read}
+use Rattle.tree.proofs.Splits.{splits, first-fits, item-fits, size-spell, ended, ended-end, ended-closing, ended-other, onto-open, closer, onto-pair, restOf, rest-read}
 
 -- The numbers of a list, stored one after another, and then those of a second.
 sets-append : (l : List ℕ) (i : ℕ) (xs ys : List ℕ) → sets l i (xs ++ ys) ≡ sets (sets l i xs) (i + length xs) ys

@@ -4,7 +4,7 @@ use mathlib.Core.Logic.{_⊎_, ⊎-elim}
 use Prim.Native.Nat.{ℕ}
 use native.Mathlib.Omega.{arith}
 use Rattle.tree.specs.declared.character.Meaning.{Meaning}
-use Rattle.tree.specs.declared.character.Meaning.the-variants.{Unpaired, Opening, Closing, Refused}
+use Rattle.tree.specs.declared.character.Meaning.the-variants.{Closing}
 use denote.Enum.Declared.{tagOf, declared}
 use Rattle.tree.proofs.character.Meaning.{enum}
 

@@ -1,9 +1,8 @@
 -- What the search in a text answers is what the search in its tree does, in each case of the code. Assumes nothing.
 use mathlib.Core.Path.{_≡_, refl, sym, ap, ap₂, subst, _∙_}
-use mathlib.Core.Bool.{false}
-use Prim.Native.Nat.{ℕ, suc, _+_, _-_, _≤_, _<_}
+use Prim.Native.Nat.{ℕ, _+_, _-_, _≤_, _<_}
 use native.Mathlib.Omega.{arith}
-use mathlib.Core.List.{List, [], _∷_, _++_}
+use mathlib.Core.List.{List, _++_}
 use lib.ListN.{length, take, drop, length-append}
 use lib.Seq.{take-append-seam, drop-append-seam}
 use Rattle.answer.specs.declared.Answer.{Answer}
@@ -12,7 +11,7 @@ use Rattle.tree.specs.Run.{Run, spell, size}
 use Rattle.tree.specs.Run.Run.{end, dot, pair}
 use Rattle.tree.specs.Reading.{Meant, Reading, reading, readOf}
 use Rattle.tree.specs.Reading.Reading.{accepted, refused}
-use Rattle.tree.specs.Stretch.{join, Siblings, Stretch, Found, stretchIn, locatedBy, located, locatedIn, checkOf, spelled, part, partOf}
+use Rattle.tree.specs.Stretch.{join, Siblings, Stretch, Found, stretchIn, locatedBy, located, locatedIn, spelled, part, partOf}
 use Rattle.tree.specs.Stretch.Siblings.{here, past-dot, into, past-pair}
 use Rattle.tree.specs.Stretch.Found.{at, nowhere}
 use Rattle.tree.specs.Scan.{unmoved, scanTo, LocatedRight}
@@ -23,7 +22,7 @@ use Rattle.tree.proofs.Meanings.{clash}
 use Rattle.tree.proofs.Lengths.{length-few, length-fits}
 use Rattle.tree.proofs.Splits.{size-spell}
 use Rattle.tree.proofs.Grounds.{accepted-spell, read-accepts}
-use Rattle.tree.proofs.Scans.{Spelled, ends, scan-inside, scan-at, scan-nodes, scan-width, scan-part, spells}
+use Rattle.tree.proofs.Scans.{Spelled, scan-inside, scan-at, scan-nodes, scan-width, scan-part, spells}
 use Rattle.tree.proofs.Neighbours.{stands, neighbours}
 use Rattle.tree.proofs.Stretches.{stretches, no-stretch}
 

@@ -7,10 +7,17 @@ use mathlib.Core.List.{List, [], _∷_, _++_, append-assoc}
 use lib.ListN.{length, getD, drop, length-append}
 use Rattle.tree.specs.Run.{Run, spell, size}
 use Rattle.tree.specs.Run.Run.{end, dot, pair}
-use Rattle.tree.specs.Reading.{meaningOf, Runs, first, onto, runs, itemOf, restOf}
+use Rattle.tree.specs.Reading.{meaningOf, Runs, first, onto, runs}
+use Rattle.tree.specs.Building.{itemOf}
 use Rattle.tree.specs.Reading.Runs.{last, more}
 use Rattle.tree.specs.declared.character.Meaning.{Meaning}
 use Rattle.tree.specs.declared.character.Meaning.the-variants.{Unpaired, Opening, Closing, Refused}
+
+-- What follows the first item of a run.
+abbrev pub restOf : Run → Run
+restOf end = end
+restOf (dot c r) = r
+restOf (pair o i c r) = r
 
 -- What follows the last run of a text.
 pub data Stop : List ℕ → Type 0 where

@@ -8,13 +8,13 @@ use native.Mathlib.Nat.{zero-add, sub-zero}
 use mathlib.Core.List.{List, [], _∷_, _++_, append-assoc}
 use lib.ListN.{length, getD, drop, replicate, length-replicate}
 use lib.Seq.{sets, sets-eq}
-use lib.Dec.{eqb, ltb}
 use borrow.Author.Tests.{eq-eqb, ne-eqb, lt-ltb, le-ltb}
 use Rattle.answer.specs.declared.Ground.{Ground}
 use Rattle.answer.specs.declared.Ground.the-variants.{TextLength, UnknownByte, ClosesNothing, NeverClosed}
 use Rattle.answer.specs.declared.Answer.the-variants.{Accepted}
 use Rattle.tree.specs.Run.{Run, spell, size, leftsFrom, lefts}
-use Rattle.tree.specs.Reading.{meaningOf, first, runs, grown, Ready, firstRefused, Reading, badLength, groundAt, stopped, reading, readOf}
+use Rattle.tree.specs.Reading.{meaningOf, first, runs, firstRefused, badLength, groundAt, stopped, reading, readOf}
+use Rattle.tree.specs.Building.{grown, Ready}
 use Rattle.tree.specs.Reading.Reading.{accepted, refused}
 use Rattle.tree.specs.declared.character.Meaning.{Meaning}
 use Rattle.tree.specs.declared.character.Meaning.the-variants.{Unpaired, Opening, Closing, Refused}

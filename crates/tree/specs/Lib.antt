@@ -2,6 +2,7 @@ pub mod Run
 pub mod Node
 pub mod Nested
 pub mod Reading
+pub mod Building
 pub mod Grounds
 pub mod Stretch
 pub mod Scan

@@ -4,18 +4,16 @@ use mathlib.Core.Bool.{Bool, true, false, cond}
 use Prim.Native.Nat.{ℕ, suc, _+_, _-_, _≤_}
 use mathlib.Core.List.{List, [], _∷_, _++_}
 use lib.ListN.{length, getD, take, replicate}
-use lib.Seq.{sets}
 use lib.Dec.{eqb, ltb}
 use Rattle.answer.specs.declared.Ground.{Ground}
 use Rattle.answer.specs.declared.Ground.the-variants.{TextLength, UnknownByte, ClosesNothing, NeverClosed}
 use Rattle.answer.specs.declared.Place.the-variants.{ByteInQ}
 use Rattle.answer.specs.declared.Answer.{Answer}
 use Rattle.answer.specs.declared.Answer.the-variants as answer
-use Rattle.tree.specs.Run.{Run, spell, size, leftsFrom, lefts}
+use Rattle.tree.specs.Run.{Run, spell, size, lefts}
 use Rattle.tree.specs.Run.Run.{end, dot, pair}
 use Rattle.tree.specs.declared.character.Meaning.{Meaning}
 use Rattle.tree.specs.declared.character.Meaning.the-variants.{Unpaired, Opening, Closing, Refused}
-use Rattle.tree.specs.declared.run.Built.{Built}
 use Rattle.tree.specs.declared.Tree.{Tree}
 use Rattle.tree.specs.declared.TreeRead.{TreeRead}
 
@@ -52,27 +50,6 @@ onto Refused x rs = last end
 abbrev pub runs : List ℕ → Runs
 runs [] = last end
 runs (c ∷ s) = onto (meaningOf c) c (runs s)
-
--- The first item of a run by itself, and what follows it.
-abbrev pub itemOf : Run → Run
-itemOf end = end
-itemOf (dot c r) = dot c end
-itemOf (pair o i c r) = pair o i c end
-
-abbrev pub restOf : Run → Run
-restOf end = end
-restOf (dot c r) = r
-restOf (pair o i c r) = r
-
--- What is built once a run more is read: its bytes are passed, its nodes numbered on, and their leftmost leaves written.
-abbrev pub grown : Built → Run → Built
-grown b r = record { at = b .at + length (spell r); n = b .n + size r; left = sets (b .left) (b .n) (leftsFrom (b .n) r) }
-
--- Where a run can be read: at a byte of a text of at most 255, with no more nodes before it than bytes.
-pub record Ready (s : List ℕ) (b : Built) : Type 0 where
-  pub short : length s ≤ 255
-  pub inside : b .at ≤ length s
-  pub fewer : b .n ≤ b .at
 
 -- Where the first refused byte stands, or the text's length.
 abbrev pub orNext : Meaning → ℕ → ℕ

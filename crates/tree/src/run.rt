@@ -4,7 +4,8 @@ use super::character::meaning_of;
 ghost use mathlib.Core.Path.{_≡_};
 ghost use Prim.Native.Nat.{_+_, _<_};
 ghost use lib.ListN.{drop, set};
-ghost use Rattle.tree.specs.Reading.{runs, first, itemOf, grown, Ready};
+ghost use Rattle.tree.specs.Reading.{runs, first};
+ghost use Rattle.tree.specs.Building.{itemOf, grown, Ready};
 
 // What is read of a text before the byte at `at`: n nodes, with their leftmost leaves.
 pub struct Built {
