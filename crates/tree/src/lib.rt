@@ -37,7 +37,7 @@ fn bad_length(len: usize) -> bool
 }
 
 // The tree of ".", which stands beside a refusal.
-fn single_tree() -> Tree
+pub fn single_tree() -> Tree
     ensures { λ r. ⌜ r ≡ treeOf single ⌝ }
 {
     Tree {

@@ -1,0 +1,6 @@
+pub mod Judging
+pub mod Tables
+pub mod Changing
+pub mod Storing
+pub mod Opened
+pub mod Histories

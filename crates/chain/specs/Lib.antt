@@ -1,0 +1,6 @@
+pub mod State
+pub mod History
+pub mod Storing
+pub mod View
+pub mod Opening
+pub mod Reached

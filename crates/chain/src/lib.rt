@@ -1,0 +1,113 @@
+// A session on two structures: seeds are added, withdrawn, brought back and rescored, and the best chain of those present is worked out.
+mod judge;
+mod opening;
+mod store;
+
+use answer::Answer;
+use judge::judge_move;
+use judge::judge_rescore;
+use opening::read_both;
+use opening::session_on;
+use seed::Store;
+use tree::Tree;
+ghost use Rattle.chain.specs.Opening.{opening, Opens};
+ghost use Rattle.chain.specs.State.{rescore, moveTo, withdraw, bringBack};
+ghost use Rattle.chain.specs.View.{view, Sound, Does};
+
+pub struct Session {
+    pub q: Tree,
+    pub t: Tree,
+    pub seeds: usize,
+    pub changes: usize,
+    pub store: Store,
+    pub scores: [i32; 64],
+    pub present: [bool; 64],
+}
+
+// What a call that may change a session answers, and the session that it hands over.
+pub struct Changed {
+    pub answer: Answer,
+    pub session: Session,
+}
+
+// A session on two texts without seeds. Refused, it is that of "." and ".".
+pub fn open(q: &[u8], t: &[u8]) -> Changed
+    ensures { λ r. ⌜ Opens (opening (now (q .entry)) (now (t .entry))) (r .answer) (r .session) ⌝ }
+{
+    let both = read_both(q, t);
+    let tree_q = both.q;
+    let tree_t = both.t;
+    let answer = both.answer;
+    Changed {
+        answer,
+        session: session_on(tree_q, tree_t),
+    }
+}
+
+// Makes the seed present or withdrawn.
+fn move_to(s: Session, number: usize, to: bool) -> Changed
+    requires { ⌜ Sound s ⌝ }
+    ensures { λ r. ⌜ Does s (moveTo (view s) number to) (r .answer) (r .session) ⌝ }
+{
+    let present = s.present;
+    let answer = judge_move(present, s.seeds, s.changes, number, to);
+    match answer {
+        Answer::Accepted => {
+            let mut next = s;
+            let at = number - 1;
+            next.present[at] = to;
+            next.changes = s.changes + 1;
+            Changed {
+                answer,
+                session: next,
+            }
+        }
+        Answer::Refused {
+            ground: _,
+            place: _,
+        } => Changed { answer, session: s },
+    }
+}
+
+impl Session {
+    pub fn withdraw(self, number: usize) -> Changed
+        requires { ⌜ Sound self ⌝ }
+        ensures { λ r. ⌜ Does self (withdraw (view self) number) (r .answer) (r .session) ⌝ }
+    {
+        move_to(self, number, false)
+    }
+
+    pub fn bring_back(self, number: usize) -> Changed
+        requires { ⌜ Sound self ⌝ }
+        ensures { λ r. ⌜ Does self (bringBack (view self) number) (r .answer) (r .session) ⌝ }
+    {
+        move_to(self, number, true)
+    }
+
+    // Gives the seed another score, present or not.
+    pub fn rescored(self, number: usize, score: i32) -> Changed
+        requires { ⌜ Sound self ⌝ }
+        ensures { λ r. ⌜ Does self (rescore (view self) number score) (r .answer) (r .session) ⌝ }
+    {
+        let answer = judge_rescore(self.seeds, self.changes, number, score);
+        match answer {
+            Answer::Accepted => {
+                let mut next = self;
+                let at = number - 1;
+                next.scores[at] = score;
+                next.changes = self.changes + 1;
+                Changed {
+                    answer,
+                    session: next,
+                }
+            }
+            Answer::Refused {
+                ground: _,
+                place: _,
+            } => Changed {
+                answer,
+                session: self,
+            },
+        }
+    }
+}

@@ -1,0 +1,102 @@
+-- Every key that the table holds, or adds on the way, is a chain's, so that its total is at most 64,000,000 and its mask below 2 ^ 64.
+-- Assumes nothing.
+use mathlib.Core.Path.{_≡_, sym, ap, ap₂, _∙_}
+use mathlib.Core.Bool.{Bool, true, _&&_}
+use Prim.Native.Nat.{ℕ, zero, suc, _+_, _*_, _^_, _≤_, _<_}
+use native.Mathlib.Nat.{pow-le-pow-right}
+use native.Mathlib.Omega.{arith}
+use lib.IntN.{ℤ, pos, _+ℤ_, +ℤ-assoc, +ℤ-comm}
+use lib.Dec.{T, leb→le}
+use lib.Signed.{_≤ℤ_}
+use Rattle.optimum.specs.Key.{Key, empty, _⊕_, better, maskOf}
+use Rattle.optimum.specs.Table.{Items, chainable, bestOf, Laws, Limited, withUnder, maxBelow, Filled, Row, stored, Small}
+use Rattle.optimum.proofs.Booleans.{Is, yes, no, is, and-l, or-r}
+use Rattle.optimum.proofs.Keys.{gap-le, le-gap, empty-⊕, better-ind}
+use Rattle.optimum.proofs.Chains.{value, value-in, value-out, Attained, skipped, kept, weakened, best-attained}
+use Rattle.optimum.proofs.Split.{Down, under-and-left}
+use Rattle.optimum.proofs.Recurrence.{left-best}
+use Rattle.optimum.proofs.Masks.{mask-below}
+use Rattle.optimum.proofs.Numbers.{named, value-mask, fewer, value-named}
+
+-- ---- totals
+
+le-more : (z : ℤ) (x y : ℕ) → z ≤ℤ pos x → z ≤ℤ pos (y + x)
+le-more z x y h = let g = le-gap z (pos x) h in gap-le z (pos (y + x)) (g .0 + y) (sym (sym (+ℤ-assoc z (pos (g .0)) (pos y)) ∙ ap (λ (t : ℤ). t +ℤ pos y) (g .1) ∙ ap pos (omega arith)))
+
+le-add : (z z′ : ℤ) (x x′ : ℕ) → z ≤ℤ pos x → z′ ≤ℤ pos x′ → (z +ℤ z′) ≤ℤ pos (x + x′)
+le-add z z′ x x′ h h′ = gap-le (z +ℤ z′) (pos (x + x′)) (g .0 + g′ .0) (sym (regroup ∙ ap₂ _+ℤ_ (g .1) (g′ .1)))
+  where
+    g : (n : ℕ) × (z +ℤ pos n ≡ pos x)
+    g = le-gap z (pos x) h
+
+    g′ : (n : ℕ) × (z′ +ℤ pos n ≡ pos x′)
+    g′ = le-gap z′ (pos x′) h′
+
+    regroup : z +ℤ z′ +ℤ (pos (g .0) +ℤ pos (g′ .0)) ≡ z +ℤ pos (g .0) +ℤ (z′ +ℤ pos (g′ .0))
+    regroup =
+        +ℤ-assoc z z′ (pos (g .0) +ℤ pos (g′ .0))
+        ∙ ap (λ t. z +ℤ t) (sym (+ℤ-assoc z′ (pos (g .0)) (pos (g′ .0))) ∙ ap (λ t. t +ℤ pos (g′ .0)) (+ℤ-comm z′ (pos (g .0))) ∙ +ℤ-assoc (pos (g .0)) z′ (pos (g′ .0)))
+        ∙ sym (+ℤ-assoc z (pos (g .0)) (z′ +ℤ pos (g′ .0)))
+
+value-total-most : (w : ℕ → Key) (most : ℕ) (f : ℕ → Bool) (n : ℕ) → ((k : ℕ) → k < n → w k .total ≤ℤ pos most) → value w f n .total ≤ℤ pos (n * most)
+unfolding value empty _⊕_
+value-total-most w most f zero h = gap-le (pos 0) (pos (0 * most)) 0 (ap pos (omega arith))
+value-total-most w most f (suc n) h = go (is (f n)) (value-total-most w most f n (λ k b. h k (omega arith)))
+  where
+    sum : suc n * most ≡ most + n * most
+    sum = omega arith
+
+    go : Is (f n) → value w f n .total ≤ℤ pos (n * most) → value w f (suc n) .total ≤ℤ pos (suc n * most)
+    go (yes t) lower = rw (sum, value-in w f n t) (le-add (w n .total) (value w f n .total) most (n * most) (h n (omega arith)) lower)
+    go (no t) lower = rw (sum, value-out w f n t) (le-more (value w f n .total) (n * most) most lower)
+
+-- ---- the keys of a table
+
+module _ (S : Items) (N limit : ℕ) (score : ℕ → ℤ) (number : ℕ → ℕ) (limited : Limited limit score number (S .worth) N) where
+  abbrev c : ℕ → ℕ → Bool
+  c = chainable S
+
+  abbrev w : ℕ → Key
+  w = S .worth
+
+  module _ (p : ℕ → Bool) (n : ℕ) (b : n ≤ N) where
+    attained-mask : (k : Key) → Attained c w p n k → k .mask < 2 ^ 64
+    attained-mask k a =
+        let f = named number (a .set) n in
+        let e : value w (a .set) n .mask ≡ maskOf f limit = ap (λ v. v .mask) (sym (value-named limit score number w (a .set) n (fewer b (limited .numbered)))) ∙ value-mask score f limit in
+        omega (arith, mask-below f limit, pow-le-pow-right {n = 2} (omega arith) (limited .numbers), e, ap (λ v. v .mask) (a .worth))
+
+    attained-small : (t m : ℕ) → Attained c w p n (stored t m) → Small t m
+    attained-small t m a =
+        let i = limited .items in
+        let h : value w (a .set) n .total ≤ℤ pos (n * 1000000) = value-total-most w 1000000 (a .set) n (λ k d. rw (limited .numbered .worths k (omega arith)) (limited .scores k (omega arith))) in
+        let h′ : pos t ≤ℤ pos (n * 1000000) = rw (a .worth) at h in
+        record { total = omega (arith, leb→le t (n * 1000000) (h′ .le)); mask = attained-mask (stored t m) a }
+
+  -- The numbers of a best key are small.
+  pub best-small : (p : ℕ → Bool) (n : ℕ) → n ≤ N → (t m : ℕ) → bestOf S p n ≡ stored t m → Small t m
+  best-small p n b t m e = attained-small p n b t m (rw (← e) (best-attained c w p n))
+
+  -- The mask of an item with the best chain under it fits 64 bits.
+  pub under-small : (y : ℕ) → y < N → (t m : ℕ) → bestOf S (λ x. S .under x y) y ≡ stored t m → S .worth y .mask + m < 2 ^ 64
+  unfolding _⊕_
+  under-small y b t m e =
+      omega (
+        arith,
+        ap (λ k. k .mask) e,
+        attained-mask (λ x. true) (suc y) (omega arith) _ (kept c w (λ x. true) y _ tt (weakened c w (λ x. S .under x y) (λ x. c x y) (λ x. or-r (S .left x y) (S .under x y)) y _ (best-attained c w (λ x. S .under x y) y))),
+      )
+
+  module _ (laws : Laws S N) (p : ℕ → Bool) (dp : Down S p N) where
+    entry-attained : (y : ℕ) → y < N → T (p y) → Attained c w p (suc y) (better empty (withUnder S y) ⊕ bestOf S (λ x. p x && S .left x y) y)
+    entry-attained y b t =
+        better-ind (λ v. Attained c w p (suc y) (v ⊕ bestOf S (λ x. p x && S .left x y) y)) empty (withUnder S y)
+        (rw empty-⊕ (skipped c w p y _ (weakened c w (λ x. p x && S .left x y) p (λ x. and-l (p x) (S .left x y)) y _ (best-attained c w (λ x. p x && S .left x y) y))))
+        (rw (under-and-left S N laws p dp y b t) (kept c w p y _ t (best-attained c w (λ x. p x && c x y) y)))
+
+    -- The numbers of an entry of a row, an item's key in v with the best of the row left of it, are small.
+    pub entry-small : (v d : ℕ → Key) (n k : ℕ) → n ≤ N → k < n → T (p k) → Filled S v n → Row (S .left) p v d k → (t m : ℕ) → v k ⊕ maxBelow (λ j. p j && S .left j k) d k ≡ stored t m → Small t m
+    unfolding Filled
+    entry-small v d n k b a s f r t m e =
+        attained-small p (suc k) (omega arith) t m
+        (rw (← (ap₂ _⊕_ (sym (f k a)) (sym (left-best S N laws p dp v d k (omega arith) (λ y h. f y (omega arith)) r)) ∙ e)) (entry-attained k (omega arith) s))

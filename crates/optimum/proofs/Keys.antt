@@ -1,0 +1,192 @@
+-- The order of keys and its laws. Assumes nothing.
+use mathlib.Core.Path.{_≡_, refl, sym, ap, _∙_}
+use mathlib.Core.Bool.{Bool, true, false, not, cond}
+use Prim.Native.Nat.{ℕ, zero, suc, _+_, _-_, _≤_, _<_}
+use native.Mathlib.Omega.{arith}
+use native.Mathlib.Nat.{le-refl, le-antisymm}
+use lib.IntN.{ℤ, pos, negsuc, subℕ, _+ℤ_, negℤ, +ℤ-assoc, +ℤ-comm, +ℤ-idl, +ℤ-idr, +ℤ-invl}
+use lib.Dec.{T, leb, ltb, leb→le, ltb→lt, lt→ltb, nleb→lt, nltb→le}
+use lib.Signed.{ltZ, _≤ℤ_, ltZ-yes, ltZ-no, ≤ℤ-refl, clashℤ}
+use Rattle.optimum.specs.Key.{Key, empty, _⊕_, noBetter, better}
+use Rattle.optimum.proofs.Booleans.{Is, yes, no, is, T-eq, T-neq}
+
+-- ---- whole numbers, by how much one is more
+
+pub sub-ge : (a b : ℕ) → b ≤ a → subℕ a b ≡ pos (a - b)
+sub-ge a b h = go (is (ltb a b))
+  where
+    go : Is (ltb a b) → subℕ a b ≡ pos (a - b)
+    go (yes t) = absurd (omega (arith, ltb→lt a b t))
+    go (no t) = rw (T-neq {b = ltb a b} t)
+
+sub-lt : (a b : ℕ) → a < b → subℕ a b ≡ negsuc (b - suc a)
+sub-lt a b h = rw (T-eq {b = ltb a b} (lt→ltb a b h))
+
+lt-gap : (a b : ℤ) → T (ltZ a b) → (n : ℕ) × (b ≡ a +ℤ pos (suc n))
+lt-gap (pos a) (pos b) t = let h = ltb→lt a b t in (b - suc a, ap pos (omega arith))
+lt-gap (pos a) (negsuc b) t = absurd t
+lt-gap (negsuc a) (pos b) t = (b + a, sym (sub-ge (suc (b + a)) (suc a) (omega arith) ∙ ap pos (omega arith)))
+lt-gap (negsuc a) (negsuc b) t =
+    let h = ltb→lt b a t in
+    (a - suc b, sym (sub-lt (suc (a - suc b)) (suc a) (omega arith) ∙ ap negsuc (omega arith)))
+
+lt-not : (a b : ℤ) → T (not (ltZ a b)) → T (not (ltZ b a)) → a ≡ b
+lt-not (pos a) (pos b) t s = ap pos (le-antisymm (nltb→le b a s) (nltb→le a b t))
+lt-not (pos a) (negsuc b) t s = absurd s
+lt-not (negsuc a) (pos b) t s = absurd t
+lt-not (negsuc a) (negsuc b) t s = ap negsuc (le-antisymm (nltb→le b a t) (nltb→le a b s))
+
+-- No whole number is itself and more.
+pub no-gap : (a : ℤ) (n : ℕ) → a ≡ a +ℤ pos (suc n) → ⊥
+no-gap a n e =
+    let z : pos 0 ≡ pos (suc n) = sym (+ℤ-invl a) ∙ ap (λ (x : ℤ). negℤ a +ℤ x) e ∙ sym (+ℤ-assoc (negℤ a) a (pos (suc n))) ∙ ap (λ (x : ℤ). x +ℤ pos (suc n)) (+ℤ-invl a) ∙ +ℤ-idl (pos (suc n)) in
+    let q : 0 ≡ suc n = cc in
+    omega arith
+
+two-gaps : (x : ℤ) {y z : ℤ} (n m : ℕ) → y ≡ x +ℤ pos (suc n) → z ≡ y +ℤ pos (suc m) → z ≡ x +ℤ pos (suc (n + suc m))
+two-gaps x n m e f = f ∙ ap (λ (t : ℤ). t +ℤ pos (suc m)) e ∙ +ℤ-assoc x (pos (suc n)) (pos (suc m)) ∙ ap (λ (t : ℕ). x +ℤ pos t) (omega arith)
+
+pub gap-le : (a b : ℤ) (n : ℕ) → b ≡ a +ℤ pos n → a ≤ℤ b
+gap-le a b zero e = rw (e ∙ +ℤ-idr a) (≤ℤ-refl a)
+gap-le a b (suc n) e = go (is (ltZ b a))
+  where
+    go : Is (ltZ b a) → a ≤ℤ b
+    go (yes t) = let g = lt-gap b a t in absurd (no-gap a (n + suc (g .0)) (two-gaps a n (g .0) e (g .1)))
+    go (no t) = ltZ-no t
+
+pub le-antisym : (a b : ℤ) → a ≤ℤ b → b ≤ℤ a → a ≡ b
+le-antisym a b h k = go (is (ltZ a b)) (is (ltZ b a))
+  where
+    go : Is (ltZ a b) → Is (ltZ b a) → a ≡ b
+    go (yes t) s = clashℤ (ltZ-yes t) k
+    go (no t) (yes s) = clashℤ (ltZ-yes s) h
+    go (no t) (no s) = lt-not a b t s
+
+pub le-gap : (a b : ℤ) → a ≤ℤ b → (n : ℕ) × (a +ℤ pos n ≡ b)
+le-gap a b h = go (is (ltZ a b)) (is (ltZ b a))
+  where
+    go : Is (ltZ a b) → Is (ltZ b a) → (n : ℕ) × (a +ℤ pos n ≡ b)
+    go (yes t) s = let g = lt-gap a b t in (suc (g .0), sym (g .1))
+    go (no t) (yes s) = clashℤ (ltZ-yes s) h
+    go (no t) (no s) = (0, +ℤ-idr a ∙ lt-not a b t s)
+
+-- ---- keys add
+
+pub key-eq : {a b : Key} → a .total ≡ b .total → a .mask ≡ b .mask → a ≡ b
+key-eq p q = λ i. record { total = p i; mask = q i }
+
+pub ⊕-comm : (a b : Key) → a ⊕ b ≡ b ⊕ a
+unfolding _⊕_
+⊕-comm a b = key-eq (+ℤ-comm (a .total) (b .total)) (omega arith)
+
+pub ⊕-assoc : (a b c : Key) → (a ⊕ b) ⊕ c ≡ a ⊕ (b ⊕ c)
+unfolding _⊕_
+⊕-assoc a b c = key-eq (+ℤ-assoc (a .total) (b .total) (c .total)) (omega arith)
+
+pub ⊕-empty : (a : Key) → a ⊕ empty ≡ a
+unfolding _⊕_ empty
+⊕-empty a = key-eq (+ℤ-idr (a .total)) (omega arith)
+
+pub empty-⊕ : (a : Key) → empty ⊕ a ≡ a
+empty-⊕ a = ⊕-comm empty a ∙ ⊕-empty a
+
+pub ⊕-swap : (a b c : Key) → a ⊕ (b ⊕ c) ≡ b ⊕ (a ⊕ c)
+⊕-swap a b c = sym (⊕-assoc a b c) ∙ ap (λ t. t ⊕ c) (⊕-comm a b) ∙ ⊕-assoc b a c
+
+-- ---- their order: b is at least as good as a
+
+infix 50 _≼_
+pub data _≼_ (a b : Key) : Type 0 where
+  more : (n : ℕ) → b .total ≡ a .total +ℤ pos (suc n) → a ≼ b
+  same : b .total ≡ a .total → b .mask ≤ a .mask → a ≼ b
+
+pub ≼-refl : (a : Key) → a ≼ a
+≼-refl a = same refl (le-refl (a .mask))
+
+pub ≼-trans : {a b c : Key} → a ≼ b → b ≼ c → a ≼ c
+≼-trans {a} (more n e) (more m f) = more (n + suc m) (two-gaps (a .total) n m e f)
+≼-trans (more n e) (same f g) = more n (f ∙ e)
+≼-trans (same e g) (more m f) = more m (rw e at f)
+≼-trans (same e g) (same f h) = same (f ∙ e) (omega arith)
+
+≼-antisym : {a b : Key} → a ≼ b → b ≼ a → a ≡ b
+≼-antisym {a} {b} (more n e) (more m f) = absurd (no-gap (a .total) (n + suc m) (two-gaps (a .total) n m e f))
+≼-antisym {a} {b} (more n e) (same f g) = absurd (no-gap (a .total) n (f ∙ e))
+≼-antisym {a} {b} (same e g) (more m f) = absurd (no-gap (b .total) m (e ∙ f))
+≼-antisym (same e g) (same f h) = key-eq f (omega arith)
+
+pub ≼-mono : {a b : Key} (c : Key) → a ≼ b → c ⊕ a ≼ c ⊕ b
+unfolding _⊕_
+≼-mono {a} c (more n e) = more n (ap (λ (t : ℤ). c .total +ℤ t) e ∙ sym (+ℤ-assoc (c .total) (a .total) (pos (suc n))))
+≼-mono c (same e g) = same (ap (λ (t : ℤ). c .total +ℤ t) e) (omega arith)
+
+-- ---- the test
+
+more-of : {a b : Key} → T (ltZ (a .total) (b .total)) → a ≼ b
+more-of {a} {b} t = let g = lt-gap (a .total) (b .total) t in more (g .0) (g .1)
+
+test-yes : {a b : Key} → T (noBetter a b) → a ≼ b
+unfolding noBetter
+test-yes {a} {b} t = go (ltZ (a .total) (b .total)) (ltZ (b .total) (a .total)) more-of (λ h k. lt-not (b .total) (a .total) k h) t
+  where
+    go : (x y : Bool) → (T x → a ≼ b) → (T (not x) → T (not y) → b .total ≡ a .total) → T (cond x true (cond y false (leb (b .mask) (a .mask)))) → a ≼ b
+    go true y f g t = f tt
+    go false true f g t = absurd t
+    go false false f g t = same (g tt tt) (leb→le (b .mask) (a .mask) t)
+
+test-no : {a b : Key} → T (not (noBetter a b)) → b ≼ a
+unfolding noBetter
+test-no {a} {b} t = go (ltZ (a .total) (b .total)) (ltZ (b .total) (a .total)) more-of (λ h k. lt-not (a .total) (b .total) h k) t
+  where
+    go : (x y : Bool) → (T y → b ≼ a) → (T (not x) → T (not y) → a .total ≡ b .total) → T (not (cond x true (cond y false (leb (b .mask) (a .mask))))) → b ≼ a
+    go true y f g t = absurd t
+    go false true f g t = f tt
+    go false false f g t = let h = nleb→lt (b .mask) (a .mask) t in same (g tt tt) (omega arith)
+
+-- ---- the better of two
+
+pub better-ind : (P : Key → Type 0) (a b : Key) → P a → P b → P (better a b)
+unfolding better
+better-ind P a b p q = go (noBetter a b)
+  where
+    go : (x : Bool) → P (cond x b a)
+    go true = q
+    go false = p
+
+pub better-l : (a b : Key) → a ≼ better a b
+unfolding better
+better-l a b = go (noBetter a b) test-yes
+  where
+    go : (x : Bool) → (T x → a ≼ b) → a ≼ cond x b a
+    go true f = f tt
+    go false f = ≼-refl a
+
+pub better-r : (a b : Key) → b ≼ better a b
+unfolding better
+better-r a b = go (noBetter a b) test-no
+  where
+    go : (x : Bool) → (T (not x) → b ≼ a) → b ≼ cond x b a
+    go true f = ≼-refl b
+    go false f = f tt
+
+better-lub : {a b c : Key} → a ≼ c → b ≼ c → better a b ≼ c
+better-lub {a} {b} {c} p q = better-ind (λ x. x ≼ c) a b p q
+
+pub better-left : {a b : Key} → b ≼ a → better a b ≡ a
+better-left {a} {b} h = ≼-antisym (better-lub (≼-refl a) h) (better-l a b)
+
+pub better-right : {a b : Key} → a ≼ b → better a b ≡ b
+better-right {a} {b} h = ≼-antisym (better-lub h (≼-refl b)) (better-r a b)
+
+pub ⊕-better : (c a b : Key) → c ⊕ better a b ≡ better (c ⊕ a) (c ⊕ b)
+⊕-better c a b =
+    ≼-antisym
+    (better-ind (λ x. c ⊕ x ≼ better (c ⊕ a) (c ⊕ b)) a b (better-l (c ⊕ a) (c ⊕ b)) (better-r (c ⊕ a) (c ⊕ b)))
+    (better-lub (≼-mono c (better-l a b)) (≼-mono c (better-r a b)))
+
+-- What is worse than the empty chain may count as the empty chain, if the rest alone is no better than what is at hand.
+pub better-clipped : (m b v : Key) → b ≼ m → better m (better empty v ⊕ b) ≡ better m (v ⊕ b)
+better-clipped m b v h =
+    ≼-antisym
+    (better-lub (better-l m (v ⊕ b)) (better-ind (λ x. x ⊕ b ≼ better m (v ⊕ b)) empty v (rw empty-⊕ (≼-trans h (better-l m (v ⊕ b)))) (better-r m (v ⊕ b))))
+    (better-lub (better-l m (better empty v ⊕ b)) (≼-trans (rw (⊕-comm v b, ⊕-comm (better empty v) b) (≼-mono b (better-r empty v))) (better-r m (better empty v ⊕ b))))

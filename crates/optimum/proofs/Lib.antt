@@ -1,0 +1,11 @@
+pub mod Booleans
+pub mod Keys
+pub mod StoredKeys
+pub mod Chains
+pub mod Split
+pub mod Recurrence
+pub mod Masks
+pub mod Numbers
+pub mod Bounds
+pub mod BestChain
+pub mod Examples

@@ -1,0 +1,4 @@
+pub mod Chain
+pub mod Key
+pub mod Best
+pub mod Table
