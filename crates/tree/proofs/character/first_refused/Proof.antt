@@ -1,3 +1,4 @@
+-- `tree::character::first_refused` meets its contract: no byte before i is refused. Assumes nothing.
 use mathlib.Core.Path.{_≡_}
 use Prim.Native.Nat.{_+_, _-_, _≤_}
 use native.Mathlib.Omega.{arith}
@@ -26,7 +27,7 @@ enum-told : tie.Need-enum-told Inv-loop μ-loop
 enum-told c = c .match .keys1
 
 returns : tie.Need-returns Inv-loop μ-loop
-returns c = refused-here (c .before .before .before .before .before .before .before .args .text .now) (c .before .before .before .before .before .loop .i) (c .before .before .before .before .loop-test .taken) (c .before .before .meaning-of .result) (c .before .before .meaning-of .ensures) (c .before .before .before .before .before .loop .inv .1) (c .enum-told .given .1)
+returns c = refused-here _ _ (c .before .before .before .before .loop-test .taken) (c .before .before .meaning-of .result) (c .before .before .meaning-of .ensures) (c .before .before .before .before .before .loop .inv .1) (c .enum-told .given .1)
 
 add-i : tie.Need-add-i Inv-loop μ-loop
 add-i c = omega arith
@@ -35,10 +36,10 @@ loop-less : tie.Need-loop-less Inv-loop μ-loop
 loop-less c = omega arith
 
 loop-again : tie.Need-loop-again Inv-loop μ-loop
-loop-again c = (omega arith, refused-later (c .before .before .before .before .before .before .args .text .now) (c .before .before .before .before .loop .i) (c .before .before .before .loop-test .taken) (c .before .meaning-of .result) (c .before .meaning-of .ensures) (c .before .before .before .before .loop .inv .1) (c .match .keys2))
+loop-again c = (omega arith, refused-later _ _ (c .before .before .before .loop-test .taken) (c .before .meaning-of .result) (c .before .meaning-of .ensures) (c .before .before .before .before .loop .inv .1) (c .match .keys2))
 
 returns-2 : tie.Need-returns-2 Inv-loop μ-loop
-returns-2 c = refused-none (c .before .before .before .args .text .now) (c .before .loop .i) (c .loop-test .left) (c .before .loop .inv .1)
+returns-2 c = refused-none _ _ (c .loop-test .left) (c .before .loop .inv .1)
 
 pub first-refused-spec : {M : Type 1} → statement M
 first-refused-spec =

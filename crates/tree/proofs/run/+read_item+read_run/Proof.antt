@@ -1,3 +1,5 @@
+-- `tree::run::read_item` and `tree::run::read_run` meet their contracts: one law for each way out. The number that falls is twice the bytes left,
+-- and one more for the run. Assumes nothing.
 use Prim.Native.Nat.{ℕ, _<_, _+_, _*_, _-_}
 use native.Mathlib.Omega.{arith}
 use lib.ListN.{length}
@@ -43,7 +45,7 @@ read-item-returns : (t : ℕ) → read-item-lts.Need-returns (
   read-run-below t,
   read-run.Post,
 ) (read-item-at t) read-item.Post
-read-item-returns t c = item-end (c .before .before .args .text .now) (c .before .before .args .b) (c .if1 .taken)
+read-item-returns t c = item-end _ _ (c .if1 .taken)
 
 read-item-shared-slice-read-meaning-of : (t : ℕ) → read-item-lts.Need-shared-slice-read-meaning-of (
   meaning-of-reads.Asked,
@@ -113,7 +115,7 @@ read-item-read-run-requires : (t : ℕ) → read-item-lts.Need-read-run-requires
   read-run-below t,
   read-run.Post,
 ) (read-item-at t) read-item.Post
-read-item-read-run-requires t c κs = (omega arith, ready-inside (c .before .before .before .before .before .before .before .args .text .now) (c .before .before .before .before .before .before .before .args .b) (c .before .before .before .before .before .before .before .pre .1) (c .before .before .before .before .before .if1 .left))
+read-item-read-run-requires t c κs = (omega arith, ready-inside _ _ (c .before .before .before .before .before .before .before .pre .1) (c .before .before .before .before .before .if1 .left))
 
 read-item-returns-2 : (t : ℕ) → read-item-lts.Need-returns-2 (
   meaning-of-reads.Asked,
@@ -123,7 +125,7 @@ read-item-returns-2 : (t : ℕ) → read-item-lts.Need-returns-2 (
   read-run-below t,
   read-run.Post,
 ) (read-item-at t) read-item.Post
-read-item-returns-2 t c = item-unended (c .before .before .before .before .before .before .before .before .before .args .text .now) (c .before .before .before .before .before .before .before .before .before .args .b) (c .before .before .before .before .before .before .before .if1 .left) (c .before .before .before .before .before .meaning-of .result) (c .before .before .before .before .before .meaning-of .ensures) (c .before .before .before .enum-told2 .given .1) (c .before .read-run .result) (c .before .read-run .ensures) (c .if2 .taken)
+read-item-returns-2 t c = item-unended _ _ (c .before .before .before .before .before .before .before .if1 .left) _ (c .before .before .before .before .before .meaning-of .ensures) (c .before .before .before .enum-told2 .given .1) _ (c .before .read-run .ensures) (c .if2 .taken)
 
 read-item-shared-slice-read-meaning-of-2 : (t : ℕ) → read-item-lts.Need-shared-slice-read-meaning-of-2 (
   meaning-of-reads.Asked,
@@ -163,7 +165,7 @@ read-item-with-node-requires-2 : (t : ℕ) → read-item-lts.Need-with-node-requ
   read-run-below t,
   read-run.Post,
 ) (read-item-at t) read-item.Post
-read-item-with-node-requires-2 t c κs = let h = ready-after-run (c .before .before .before .before .before .before .before .before .before .before .before .before .before .args .text .now) (inside-of (c .before .before .before .before .before .before .before .before .before .before .before .before .before .args .b)) (c .before .before .before .before .before .read-run .result) (c .before .before .before .before .before .read-run .ensures) (ready-inside (c .before .before .before .before .before .before .before .before .before .before .before .before .before .args .text .now) (c .before .before .before .before .before .before .before .before .before .before .before .before .before .args .b) (c .before .before .before .before .before .before .before .before .before .before .before .before .before .pre .1) (c .before .before .before .before .before .before .before .before .before .before .before .if1 .left)) in omega arith
+read-item-with-node-requires-2 t c κs = let h = ready-after-run _ (inside-of _) _ (c .before .before .before .before .before .read-run .ensures) (ready-inside _ _ (c .before .before .before .before .before .before .before .before .before .before .before .before .before .pre .1) (c .before .before .before .before .before .before .before .before .before .before .before .if1 .left)) in omega arith
 
 read-item-returns-3 : (t : ℕ) → read-item-lts.Need-returns-3 (
   meaning-of-reads.Asked,
@@ -173,7 +175,7 @@ read-item-returns-3 : (t : ℕ) → read-item-lts.Need-returns-3 (
   read-run-below t,
   read-run.Post,
 ) (read-item-at t) read-item.Post
-read-item-returns-3 t c = item-dot (c .before .before .before .before .before .before .before .args .text .now) (c .before .before .before .before .before .before .before .args .b) (c .before .before .before .before .before .if1 .left) (c .before .before .before .meaning-of .result) (c .before .before .before .meaning-of .ensures) (c .before .enum-told .given .1) (c .with-node .result) (c .with-node .ensures)
+read-item-returns-3 t c = item-dot _ _ (c .before .before .before .before .before .if1 .left) _ (c .before .before .before .meaning-of .ensures) (c .before .enum-told .given .1) _ (c .with-node .ensures)
 
 read-item-returns-4 : (t : ℕ) → read-item-lts.Need-returns-4 (
   meaning-of-reads.Asked,
@@ -183,7 +185,7 @@ read-item-returns-4 : (t : ℕ) → read-item-lts.Need-returns-4 (
   read-run-below t,
   read-run.Post,
 ) (read-item-at t) read-item.Post
-read-item-returns-4 t c = item-closed (c .before .before .before .before .before .before .before .before .before .before .before .before .before .before .args .text .now) (c .before .before .before .before .before .before .before .before .before .before .before .before .before .before .args .b) (c .before .before .before .before .before .before .before .before .before .before .before .before .if1 .left) (c .before .before .before .before .before .before .before .before .before .before .meaning-of .result) (c .before .before .before .before .before .before .before .before .before .before .meaning-of .ensures) (c .before .before .before .before .before .before .before .before .enum-told2 .given .1) (c .before .before .before .before .before .before .read-run .result) (c .before .before .before .before .before .before .read-run .ensures) (c .before .before .before .before .before .if2 .left) (c .before .before .before .meaning-of2 .result) (c .before .before .before .meaning-of2 .ensures) (c .before .enum-told3 .given .1) (c .with-node2 .result) (c .with-node2 .ensures)
+read-item-returns-4 t c = item-closed _ _ (c .before .before .before .before .before .before .before .before .before .before .before .before .if1 .left) _ (c .before .before .before .before .before .before .before .before .before .before .meaning-of .ensures) (c .before .before .before .before .before .before .before .before .enum-told2 .given .1) _ (c .before .before .before .before .before .before .read-run .ensures) (c .before .before .before .before .before .if2 .left) _ (c .before .before .before .meaning-of2 .ensures) (c .before .enum-told3 .given .1) _ (c .with-node2 .ensures)
 
 read-item-returns-5 : (t : ℕ) → read-item-lts.Need-returns-5 (
   meaning-of-reads.Asked,
@@ -193,7 +195,7 @@ read-item-returns-5 : (t : ℕ) → read-item-lts.Need-returns-5 (
   read-run-below t,
   read-run.Post,
 ) (read-item-at t) read-item.Post
-read-item-returns-5 t c = item-unclosed (c .before .before .before .before .before .before .before .before .before .before .before .before .args .text .now) (c .before .before .before .before .before .before .before .before .before .before .before .before .args .b) (c .before .before .before .before .before .before .before .before .before .before .if1 .left) (c .before .before .before .before .before .before .before .before .meaning-of .result) (c .before .before .before .before .before .before .before .before .meaning-of .ensures) (c .before .before .before .before .before .before .enum-told2 .given .1) (c .before .before .before .before .read-run .result) (c .before .before .before .before .read-run .ensures) (c .before .meaning-of2 .result) (c .before .meaning-of2 .ensures) (c .match2 .keys2)
+read-item-returns-5 t c = item-unclosed _ _ (c .before .before .before .before .before .before .before .before .before .before .if1 .left) _ (c .before .before .before .before .before .before .before .before .meaning-of .ensures) (c .before .before .before .before .before .before .enum-told2 .given .1) _ (c .before .before .before .before .read-run .ensures) _ (c .before .meaning-of2 .ensures) (c .match2 .keys2)
 
 read-item-returns-6 : (t : ℕ) → read-item-lts.Need-returns-6 (
   meaning-of-reads.Asked,
@@ -203,7 +205,7 @@ read-item-returns-6 : (t : ℕ) → read-item-lts.Need-returns-6 (
   read-run-below t,
   read-run.Post,
 ) (read-item-at t) read-item.Post
-read-item-returns-6 t c = item-other (c .before .before .before .before .before .args .text .now) (c .before .before .before .before .before .args .b) (c .before .before .before .if1 .left) (c .before .meaning-of .result) (c .before .meaning-of .ensures) (c .match .keys3)
+read-item-returns-6 t c = item-other _ _ (c .before .before .before .if1 .left) _ (c .before .meaning-of .ensures) (c .match .keys3)
 
 read-run-read-item-requires : (t : ℕ) → read-run-lts.Need-read-item-requires (
   read-item-below t,
@@ -219,7 +221,7 @@ read-run-read-run-requires : (t : ℕ) → read-run-lts.Need-read-run-requires (
   read-run-below t,
   read-run.Post,
 ) (read-run-at t) read-run.Post
-read-run-read-run-requires t c κs = let x = c .before .before .before .read-item .result in let e = c .before .before .before .read-item .ensures in let h = ready-after-item (c .before .before .before .before .before .args .text .now) (c .before .before .before .before .before .args .b) x e (c .before .before .before .before .before .pre .1) in let k = run-moves (c .before .before .before .before .before .args .text .now) (c .before .before .before .before .before .args .b) x e (c .if1 .left) in (omega arith, h)
+read-run-read-run-requires t c κs = let x = c .before .before .before .read-item .result in let e = c .before .before .before .read-item .ensures in let h = ready-after-item _ _ x e (c .before .before .before .before .before .pre .1) in let k = run-moves _ _ x e (c .if1 .left) in (omega arith, h)
 
 read-run-returns : (t : ℕ) → read-run-lts.Need-returns (
   read-item-below t,
@@ -227,7 +229,7 @@ read-run-returns : (t : ℕ) → read-run-lts.Need-returns (
   read-run-below t,
   read-run.Post,
 ) (read-run-at t) read-run.Post
-read-run-returns t c = run-done (c .before .before .before .before .before .args .text .now) (c .before .before .before .before .before .args .b) (c .before .before .before .read-item .result) (c .before .before .before .read-item .ensures) (c .if1 .taken)
+read-run-returns t c = run-done _ _ _ (c .before .before .before .read-item .ensures) (c .if1 .taken)
 
 read-run-returns-2 : (t : ℕ) → read-run-lts.Need-returns-2 (
   read-item-below t,
@@ -235,7 +237,7 @@ read-run-returns-2 : (t : ℕ) → read-run-lts.Need-returns-2 (
   read-run-below t,
   read-run.Post,
 ) (read-run-at t) read-run.Post
-read-run-returns-2 t c = run-more (c .before .before .before .before .before .before .args .text .now) (c .before .before .before .before .before .before .args .b) (c .before .before .before .before .read-item .result) (c .before .before .before .before .read-item .ensures) (c .read-run .result) (c .read-run .ensures)
+read-run-returns-2 t c = run-more _ _ _ (c .before .before .before .before .read-item .ensures) _ (c .read-run .ensures)
 
 pub +read-item+read-run-spec : {M : Type 1} → statement M
 +read-item+read-run-spec = close μ-read-item μ-read-run (λ t. read-item-lts.spec (
