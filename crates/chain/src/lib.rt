@@ -1,17 +1,23 @@
 // A session on two structures: seeds are added, withdrawn, brought back and rescored, and the best chain of those present is worked out.
+mod adding;
 mod judge;
 mod opening;
 mod store;
 
+use adding::judge_add;
+use adding::with_seed;
 use answer::Answer;
 use judge::judge_move;
 use judge::judge_rescore;
 use opening::read_both;
 use opening::session_on;
 use seed::Store;
+use seed::pair_count;
 use tree::Tree;
+ghost use mathlib.Core.Path.{_≡_};
+ghost use Rattle.seed.specs.Pairs.{pairsOf};
 ghost use Rattle.chain.specs.Opening.{opening, Opens};
-ghost use Rattle.chain.specs.State.{rescore, moveTo, withdraw, bringBack};
+ghost use Rattle.chain.specs.State.{addAnswer, add, numberGiven, rescore, moveTo, withdraw, bringBack};
 ghost use Rattle.chain.specs.View.{view, Sound, Does};
 
 pub struct Session {
@@ -27,6 +33,13 @@ pub struct Session {
 // What a call that may change a session answers, and the session that it hands over.
 pub struct Changed {
     pub answer: Answer,
+    pub session: Session,
+}
+
+// What an add answers, the number that the seed got, and the session that is handed over.
+pub struct Added {
+    pub answer: Answer,
+    pub number: usize,
     pub session: Session,
 }
 
@@ -82,6 +95,34 @@ impl Session {
         ensures { λ r. ⌜ Does self (bringBack (view self) number) (r .answer) (r .session) ⌝ }
     {
         move_to(self, number, true)
+    }
+
+    // Adds the seed of these q and t, as far as both lists go, and answers its number, or 0 beside a refusal.
+    pub fn added(self, qs: &[u8], ts: &[u8], score: i32) -> Added
+        requires { ⌜ Sound self ⌝ }
+        ensures does { λ r. ⌜ Does self (add (view self) (pairsOf (now (qs .entry)) (now (ts .entry))) score) (r .answer) (r .session) ⌝ }
+        ensures number { λ r. ⌜ r .number ≡ numberGiven (view self) (r .answer) ⌝ }
+    {
+        let answer = judge_add(self, qs, ts, score);
+        match answer {
+            Answer::Accepted => {
+                let count = pair_count(qs, ts);
+                let next = with_seed(self, &qs[..count], &ts[..count], score);
+                Added {
+                    answer,
+                    number: next.seeds,
+                    session: next,
+                }
+            }
+            Answer::Refused {
+                ground: _,
+                place: _,
+            } => Added {
+                answer,
+                number: 0,
+                session: self,
+            },
+        }
     }
 
     // Gives the seed another score, present or not.
