@@ -25,10 +25,12 @@ use Rattle.seed.proofs.PairLists.{count-first, count-most}
 use Rattle.seed.proofs.Grounds.{accepts-seeds}
 use Rattle.chain.specs.State.{Row, unless, newRow, pairCount, inRange, countAnswer, limitAnswer, addAnswer, add, numberGiven}
 use Rattle.chain.specs.Storing.{withSeed, Room}
-use Rattle.chain.specs.View.{tab, rowAt, table, view, Sound, Does}
+use Rattle.seed.specs.Tab.{tab}
+use Rattle.chain.specs.View.{rowAt, table, view, Sound, Does}
 use Rattle.chain.specs.declared.Session.{Session}
 use Rattle.chain.proofs.Judging.{Addable, addable, not-refused, count-room}
-use Rattle.chain.proofs.Tables.{tab-more, set-keeps, table-length}
+use Rattle.seed.proofs.Tabs.{tab-more}
+use Rattle.chain.proofs.Tables.{set-keeps, table-length}
 use Rattle.chain.proofs.Storing.{pairs-kept, pairs-new, laid-new}
 use Rattle.chain.proofs.Changing.{does-accepted, does-refused}
 
@@ -42,7 +44,7 @@ between-length : (l : List ℕ) (a b : ℕ) → a ≤ b → b ≤ length l → l
 unfolding between
 between-length l a b h k = length-take-le (b - a) (drop a l) (omega (arith, length-drop a l))
 
-pairs-length : (s : Store) (n : ℕ) → Laid s n → (i : ℕ) → i < n → length (pairsAt s i) ≡ bound s (i + 1) - bound s i
+pub pairs-length : (s : Store) (n : ℕ) → Laid s n → (i : ℕ) → i < n → length (pairsAt s i) ≡ bound s (i + 1) - bound s i
 unfolding pairsAt
 pairs-length s n h i l =
     let up : bound s i ≤ bound s (i + 1) = omega (arith, h .rising i l) in
@@ -69,7 +71,7 @@ pub by-fields : (s : Session) (ps : List Pair) (z : ℤ) → Sound s → addAnsw
 unfolding addAnswer
 by-fields s ps z h = rw (table-length s, table-count s h)
 
-unless-refused : (a later : Answer) → (a ≡ Accepted → ⊥) → unless a later ≡ a
+pub unless-refused : (a later : Answer) → (a ≡ Accepted → ⊥) → unless a later ≡ a
 unless-refused Accepted later h = absurd (h refl)
 unless-refused (Refused g p) later h = refl
 

@@ -4,4 +4,6 @@ pub mod Changing
 pub mod Storing
 pub mod Grown
 pub mod Opened
+pub mod Dealt
+pub mod DeckOpened
 pub mod Histories

@@ -1,20 +1,16 @@
 -- The state that a session stands for, what every session that is handed over has, and what a call promises of it. Assumes nothing.
 use mathlib.Core.Path.{_≡_}
 use mathlib.Core.Bool.{true, false}
-use mathlib.Core.List.{List, [], _∷_}
-use Prim.Native.Nat.{ℕ, zero, suc, _≤_, _<_}
+use mathlib.Core.List.{List}
+use Prim.Native.Nat.{ℕ, _≤_, _<_}
 use lib.ListN.{length, getD}
 use lib.IntN.{pos}
 use Rattle.answer.specs.declared.Answer.{Answer}
 use Rattle.answer.specs.declared.Answer.the-variants.{Accepted}
+use Rattle.seed.specs.Tab.{tab}
 use Rattle.seed.specs.Store.{pairsAt, Kept}
 use Rattle.chain.specs.State.{Row, State, Outcome, inRange}
 use Rattle.chain.specs.declared.Session.{Session}
-
--- The list of f i for i below n.
-unfoldable pub tab : {A : Type 0} → ℕ → (ℕ → A) → List A
-tab zero f = []
-tab (suc n) f = f 0 ∷ tab n (λ i. f (suc i))
 
 -- The row of the seed at place i, which has number i + 1.
 unfoldable pub rowAt : Session → ℕ → Row

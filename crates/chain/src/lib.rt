@@ -1,5 +1,6 @@
 // A session on two structures: seeds are added, withdrawn, brought back and rescored, and the best chain of those present is worked out.
 mod adding;
+mod deck_seeds;
 mod judge;
 mod opening;
 mod store;

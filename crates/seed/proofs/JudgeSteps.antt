@@ -86,17 +86,17 @@ module _ (l : List ℕ) (i j : ℕ) where
   unfolding inside
   inside-by h = rw (le-leb (leaf l i) j h)
 
-last-of : (x : ℕ) (xs : List ℕ) → lastOr x xs ≡ getD (x ∷ xs) (length xs) 0
-last-of x [] = refl
-last-of x (y ∷ ys) = last-of y ys
+last-node-of : (x : ℕ) (xs : List ℕ) → lastOr x xs ≡ getD (x ∷ xs) (length xs) 0
+last-node-of x [] = refl
+last-node-of x (y ∷ ys) = last-node-of y ys
 
-pub last-none : (xs : List ℕ) → length xs ≡ 0 → lastNode xs ≡ 0
-last-none [] h = refl
-last-none (x ∷ xs) h = absurd (omega arith)
+pub last-node-none : (xs : List ℕ) → length xs ≡ 0 → lastNode xs ≡ 0
+last-node-none [] h = refl
+last-node-none (x ∷ xs) h = absurd (omega arith)
 
-pub last-node : (xs : List ℕ) → lastNode xs ≡ getD xs (length xs - 1) 0
-last-node [] = refl
-last-node (x ∷ xs) = let z : suc (length xs) - 1 ≡ length xs = omega arith in rw z (last-of x xs)
+pub last-node-at : (xs : List ℕ) → lastNode xs ≡ getD xs (length xs - 1) 0
+last-node-at [] = refl
+last-node-at (x ∷ xs) = let z : suc (length xs) - 1 ≡ length xs = omega arith in rw z (last-node-of x xs)
 
 -- Spans.
 module _ (l xs : List ℕ) (x : ℕ) where

@@ -1,3 +1,4 @@
+pub mod Tabs
 pub mod Trees
 pub mod Lists
 pub mod Places

@@ -1,3 +1,4 @@
+pub mod Tab
 pub mod Paths
 pub mod Seed
 pub mod Chain

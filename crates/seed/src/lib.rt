@@ -15,6 +15,14 @@ pub struct Pair {
     pub t: u8,
 }
 
+// Seeds one after another: seed i, counted from 0, has the pairs from bounds[i] up to bounds[i + 1], and bounds[0] is 0.
+pub struct Store {
+    pub pairs: usize,
+    pub qs: [u8; 1024],
+    pub ts: [u8; 1024],
+    pub bounds: [u16; 65],
+}
+
 // The leftmost leaf of node i, and 0 if the tree has no such node.
 fn leaf_at(l: &[u8], i: usize) -> usize
     ensures { λ r. ⌜ r ≡ leaf (now (l .entry)) i ⌝ }
@@ -35,7 +43,7 @@ fn above(l: &[u8], i: usize, j: usize) -> bool
     j < i
 }
 
-// How many pairs two lists of nodes have: as many as both go on.
+// How many pairs two lists of nodes have: as many as the shorter has nodes.
 pub fn pair_count(qs: &[u8], ts: &[u8]) -> usize
     ensures { λ r. ⌜ r ≡ length (pairsOf (now (qs .entry)) (now (ts .entry))) ⌝ }
 {
@@ -57,12 +65,4 @@ fn last_pair(qs: &[u8], ts: &[u8]) -> Pair
         q: qs[n - 1],
         t: ts[n - 1],
     }
-}
-
-// Seeds one after another: seed i, counted from 0, has the pairs from bounds[i] up to bounds[i + 1], and bounds[0] is 0.
-pub struct Store {
-    pub pairs: usize,
-    pub qs: [u8; 1024],
-    pub ts: [u8; 1024],
-    pub bounds: [u16; 65],
 }

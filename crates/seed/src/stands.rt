@@ -38,7 +38,7 @@ fn level(lq: &[u8], lt: &[u8], i: usize, j: usize, p: Pair) -> bool
     a != 3
 }
 
-// Whether every pair of a seed does.
+// Whether every pair of a seed lies so.
 fn all_level(lq: &[u8], lt: &[u8], qs: &[u8], ts: &[u8], i: usize, j: usize) -> bool
     ensures { λ r. ⌜ r ≡ every (test.level (now (lq .entry)) (now (lt .entry)) i j) (pairsOf (now (qs .entry)) (now (ts .entry))) ⌝ }
 {

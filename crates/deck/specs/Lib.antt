@@ -1,0 +1,3 @@
+pub mod Deck
+pub mod Handed
+pub mod Grounds
