@@ -15,4 +15,17 @@ pub mod PairLists
 pub mod Scans
 pub mod StandSteps
 pub mod JudgeSteps
+pub mod Search
+pub mod Below
+pub mod Convex
+pub mod Boxes
+pub mod BoxList
+pub mod Areas
+pub mod AreaStretches
+pub mod Gaps
+pub mod GapLists
+pub mod GapSteps
+pub mod AreaSteps
+pub mod AreaParts
 mod Examples
+mod AreaExamples

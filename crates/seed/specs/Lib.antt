@@ -8,3 +8,5 @@ pub mod Pairs
 pub mod Store
 pub mod Judge
 pub mod AreaList
+pub mod Gaps
+pub mod Listed

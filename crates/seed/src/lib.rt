@@ -1,4 +1,5 @@
 // Seeds: which lists of pairs are seeds, how two seeds stand to each other, and the open areas of one.
+pub mod area;
 pub mod judge;
 pub mod stands;
 
@@ -8,6 +9,7 @@ ghost use Rattle.tree.specs.Nested.{leaf};
 ghost use Rattle.seed.specs.Seed.{lastPair};
 ghost use Rattle.seed.specs.Pairs.{pairsOf};
 ghost use Rattle.seed.specs.Judge as test;
+ghost use Rattle.seed.specs.AreaList as lists;
 
 // A pair joins a node of Q and a node of T.
 pub struct Pair {
@@ -41,6 +43,22 @@ fn above(l: &[u8], i: usize, j: usize) -> bool
         return false;
     }
     j < i
+}
+
+// Where node a lies as seen from node x: 0 left of it, 1 right of it, 2 above it, 3 in its subtree.
+fn side(l: &[u8], a: usize, x: usize) -> u8
+    ensures { λ r. ⌜ r ≡ lists.side (now (l .entry)) a x ⌝ }
+{
+    if a < leaf_at(l, x) {
+        return 0;
+    }
+    if x < leaf_at(l, a) {
+        return 1;
+    }
+    if x < a {
+        return 2;
+    }
+    3
 }
 
 // How many pairs two lists of nodes have: as many as the shorter has nodes.

@@ -15,3 +15,4 @@ mod Examples
 pub mod Grounds
 pub mod Trees
 pub mod Nodes
+pub mod Whole

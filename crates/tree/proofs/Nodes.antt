@@ -21,7 +21,7 @@ length-items end = refl
 length-items (dot c r) = ap suc (length-map (items r) past-dot ∙ length-items r)
 length-items (pair o i c r) = simp (length-append, length-map) (omega (arith, length-items i, length-items r))
 
-item-below : {r : Run} (x : Item r) → itemNumber x < size r
+pub item-below : {r : Run} (x : Item r) → itemNumber x < size r
 item-below the-dot = omega arith
 item-below the-pair = omega arith
 item-below (inside x) = omega (arith, item-below x)
@@ -33,7 +33,7 @@ below (item x) = omega (arith, item-below x)
 below root = omega arith
 
 -- Each number below the added root's is an item's.
-item-at : (r : Run) (k : ℕ) → k < size r → (x : Item r) × (itemNumber x ≡ k)
+pub item-at : (r : Run) (k : ℕ) → k < size r → (x : Item r) × (itemNumber x ≡ k)
 item-at end k h = absurd (omega arith)
 item-at (dot c r) zero h = (the-dot, refl)
 item-at (dot c r) (suc k) h = let w = item-at r k (omega arith) in (past-dot (w .0), ap suc (w .1))
@@ -95,7 +95,7 @@ numbered r k h =
     ap (λ (j : ℕ). number (getD (nodes r) j root)) (sym (w .1)) ∙ ap number (postfix r (w .0)) ∙ w .1
 
 -- The leftmost leaf of an item, counted from the first node of its run.
-abbrev left : {r : Run} → Item r → ℕ
+abbrev pub left : {r : Run} → Item r → ℕ
 left the-dot = 0
 left the-pair = 0
 left (inside x) = left x
@@ -114,7 +114,7 @@ left-from b (past-pair {i = i} {r = r} x) =
     ∙ left-from (b + suc (size i)) x
     ∙ omega arith
 
-leaf-item : {r : Run} (x : Item r) → leaf (lefts r) (itemNumber x) ≡ left x
+pub leaf-item : {r : Run} (x : Item r) → leaf (lefts r) (itemNumber x) ≡ left x
 unfolding leaf
 leaf-item {r} x =
     List·getD-append (leftsFrom 0 r) (0 ∷ []) 0 (itemNumber x) (omega (arith, length-lefts 0 r, item-below x))

@@ -173,7 +173,7 @@ size-join end z = omega arith
 size-join (dot c y) z = omega (arith, size-join y z)
 size-join (pair o i c y) z = omega (arith, size-join y z)
 
-inside : {y r : Run} {a k : ℕ} → Siblings y r a k → a + size y ≤ size r
+pub inside : {y r : Run} {a k : ℕ} → Siblings y r a k → a + size y ≤ size r
 inside {y = y} (here z e) = omega (arith, ap size e, size-join y z)
 inside (past-dot w) = omega (arith, inside w)
 inside (into w) = omega (arith, inside w)

@@ -1,0 +1,96 @@
+-- The key that is found by trying all chains is that of the best chain in document 01's words, and the answer names that chain. Assumes nothing.
+use mathlib.Core.Path.{_≡_, refl, sym, _∙_, fun-ext}
+use mathlib.Core.Bool.{Bool, false}
+use mathlib.Core.List.{List}
+use mathlib.Core.Logic.{inl, inr}
+use Prim.Native.Nat.{ℕ, zero, suc, _≤_, _<_}
+use native.Mathlib.Omega.{arith}
+use borrow.Author.Tests.{le-ltb}
+use lib.Dec.{T, not-T}
+use lib.IntN.{ℤ, pos, negsuc, natAbs}
+use lib.ListN.{length, getD, List·getD-eq-default}
+use lib.Signed.{_≤ℤ_}
+use Rattle.tree.specs.Nested.{Nested}
+use Rattle.tree.specs.Reading.{leavesOf}
+use Rattle.tree.specs.declared.Tree.{Tree}
+use Rattle.tree.proofs.Leaves.{lt-or-le}
+use Rattle.tree.proofs.Trees.{tree-nested}
+use Rattle.seed.specs.Seed.{Seed}
+use Rattle.seed.specs.AreaList.{chainable}
+use Rattle.seed.specs.Store.{pairsAt}
+use Rattle.seed.specs.declared.Pair.{Pair}
+use Rattle.seed.specs.declared.Store.{Store}
+use Rattle.seed.proofs.Chain.{chain-sym}
+use Rattle.seed.proofs.ChainTest.{tells-chainable}
+use Rattle.optimum.specs.Chain.{Seeds, totalOf, total, IsBest}
+use Rattle.optimum.specs.Key.{Key, seedKey, inMask}
+use Rattle.optimum.proofs.Booleans.{T-eq, T-neq}
+use Rattle.optimum.proofs.BestChain.{Listed, by-number, best-is-best, best-total}
+use Rattle.seed.specs.Tab.{tab}
+use Rattle.seed.proofs.Tabs.{length-tab, getD-tab}
+use Rattle.best.specs.Best.{keyOf, accepted, scratchNeeded, bestOf, scoreAt, presentAt, seedsOf, NamesBest, Handed, Answered}
+use Rattle.best.specs.declared.Best.{Best}
+use Rattle.best.proofs.Bits.{told-yes}
+
+-- ---- the list of 64 answers
+
+tab-is : (f : ℕ → Bool) (n : ℕ) → ((i : ℕ) → T (f i) → i < n) → presentAt (tab n f) ≡ f
+tab-is f n h = fun-ext (λ i. elim (lt-or-le i n) [ inl b ↦ getD-tab n f i false b | inr b ↦ beyond i b ])
+  where
+    beyond : (i : ℕ) → n ≤ i → getD (tab n f) i false ≡ f i
+    beyond i b = List·getD-eq-default (tab n f) false (omega (arith, length-tab n f)) ∙ sym (T-neq (not-T (f i) (λ t. omega (arith, h i t))))
+
+-- ---- a best total is not below 0
+
+none-total : (score : ℕ → ℤ) (n : ℕ) → totalOf score (λ i. false) n ≡ pos 0
+unfolding totalOf
+none-total score zero = refl
+none-total score (suc n) = none-total score n
+
+natural : (z : ℤ) → pos 0 ≤ℤ z → pos (natAbs z) ≡ z
+natural (pos n) h = refl
+natural (negsuc n) h = absurd (h .le)
+
+best-natural : (S : Seeds) (f : ℕ → Bool) → IsBest S f → pos (natAbs (total S f)) ≡ total S f
+best-natural S f h =
+    natural (total S f)
+    (rw (none-total (S .score) (S .count)) at
+    (h .greatest (λ i. false) (record { given = λ i t. absurd t; present = λ i t. absurd t; chainable = λ i j t. absurd t })))
+
+-- ---- the theorem
+
+module _ {Q T : List ℕ} (tree-q : Nested Q) (tree-t : Nested T) (pairs : ℕ → List Pair) (score : ℕ → ℤ) (present : ℕ → Bool) (n : ℕ) (seeds : (i : ℕ) → i < n → Seed Q T (pairs i)) where
+  abbrev S : Seeds
+  S = seedsOf Q T pairs score present n
+
+  -- The seeds by their numbers.
+  pub numbered : Listed S (λ i. i) (λ i j. chainable Q T (pairs i) (pairs j)) (seedKey score) present n
+  numbered =
+      by-number S (λ i j. chainable Q T (pairs i) (pairs j))
+      (λ i j. chain-sym (pairs i) (pairs j))
+      (λ i j l b t. tells-chainable tree-q tree-t (pairs i) (pairs j) (seeds i (omega arith)) (seeds j b) .0 (T-eq t))
+      (λ i j l b c. told-yes refl (tells-chainable tree-q tree-t (pairs i) (pairs j) (seeds i (omega arith)) (seeds j b) .1 c))
+
+  abbrev key : Key
+  key = keyOf Q T pairs score present n
+
+  best-set : IsBest S (inMask (key .mask))
+  unfolding keyOf
+  best-set = best-is-best S (λ i. i) (λ i j. chainable Q T (pairs i) (pairs j)) (seedKey score) present n numbered
+
+  set-total : key .total ≡ total S (inMask (key .mask))
+  unfolding keyOf
+  set-total = best-total S (λ i. i) (λ i j. chainable Q T (pairs i) (pairs j)) (seedKey score) present n numbered
+
+  -- The best chain: the answer names the chain that is best of all by document 01, with exactly its total.
+  pub best-chain : n ≤ 64 → NamesBest S (accepted key)
+  best-chain few =
+      let e = tab-is (inMask (key .mask)) 64 (λ i t. omega (arith, best-set .chain .given i t)) in
+      record { chain-best = rw e best-set; total-is = rw (e, set-total) (best-natural S (inMask (key .mask)) best-set) }
+
+-- The call on a long enough scratch names the best chain of the stored seeds.
+pub call-best : (q t : Tree) (s : Store) (n : ℕ) (scores : List ℤ) (present : List Bool) (xs ys : List ℕ) (r : Best) → Handed q t s n scores → Answered q t s n scores present xs ys r → scratchNeeded ≤ length xs → NamesBest (seedsOf (leavesOf q) (leavesOf t) (pairsAt s) (scoreAt scores) (presentAt present) n) r
+unfolding bestOf
+call-best q t s n scores present xs ys r h a room =
+    rw (a .answer, le-ltb (length xs) scratchNeeded room)
+    (best-chain (tree-nested q (h .kept .is-q)) (tree-nested t (h .kept .is-t)) (pairsAt s) (scoreAt scores) (presentAt present) n (h .kept .seed) (h .kept .laid .seeds))

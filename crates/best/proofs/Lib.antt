@@ -1,0 +1,11 @@
+pub mod Filling
+pub mod Signs
+pub mod Bits
+pub mod Ranks
+pub mod Banks
+pub mod Rows
+pub mod Standing
+pub mod BestChain
+pub mod Listing
+pub mod Answers
+mod Examples

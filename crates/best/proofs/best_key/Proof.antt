@@ -1,0 +1,84 @@
+-- `best::best_key` meets its contract: the seeds in order, how they stand, and the table on the scratch. Assumes nothing.
+use mathlib.Core.Path.{sym, _∙_}
+use Rattle.tree.proofs.Trees.{tree-length}
+use Rattle.best.proofs.Answers.{tree-fits, bounded-q, placed, table-posed, table-key}
+use borrow.Author.Needs.{needs}
+use Rattle.best.proofs.best_key.Statement.{statement}
+use Rattle.best.proofs.best_key.Tie as tie
+
+slice-aggregate-ordered : tie.Need-slice-aggregate-ordered
+slice-aggregate-ordered c = search needs
+
+slice-aggregate-ordered-2 : tie.Need-slice-aggregate-ordered-2
+slice-aggregate-ordered-2 c = search needs
+
+ordered-requires : tie.Need-ordered-requires
+ordered-requires c κs = (bounded-q _ _ (c .before .before .before .before .before .before .before .before .pre .0 .kept .laid), (c .before .before .before .before .before .before .before .before .pre .0 .kept .laid .seeds))
+
+array-share-prefix-lq : tie.Need-array-share-prefix-lq
+array-share-prefix-lq c = tree-fits _ (c .before .before .before .before .before .before .before .before .before .before .pre .0 .kept .is-q)
+
+slice-aggregate-relate : tie.Need-slice-aggregate-relate
+slice-aggregate-relate c = sym (tree-length _ (c .before .before .before .before .before .before .before .before .before .before .before .pre .0 .kept .is-q))
+
+array-share-prefix-lt : tie.Need-array-share-prefix-lt
+array-share-prefix-lt c = tree-fits _ (c .before .before .before .before .before .before .before .before .before .before .before .pre .0 .kept .is-t)
+
+slice-aggregate-relate-2 : tie.Need-slice-aggregate-relate-2
+slice-aggregate-relate-2 c = sym (tree-length _ (c .before .before .before .before .before .before .before .before .before .before .before .before .pre .0 .kept .is-t))
+
+slice-aggregate-relate-3 : tie.Need-slice-aggregate-relate-3
+slice-aggregate-relate-3 c = search needs
+
+slice-aggregate-relate-4 : tie.Need-slice-aggregate-relate-4
+slice-aggregate-relate-4 c = search needs
+
+slice-aggregate-relate-5 : tie.Need-slice-aggregate-relate-5
+slice-aggregate-relate-5 c = search needs
+
+slice-aggregate-relate-6 : tie.Need-slice-aggregate-relate-6
+slice-aggregate-relate-6 c = search needs
+
+relate-requires : tie.Need-relate-requires
+relate-requires c κs = placed _ _ (c .before .before .before .before .before .before .before .before .before .before .before .before .before .before .before .before .pre .0 .kept .laid) _ _ _ _ (c .before .before .before .before .before .before .before .ordered .ensures)
+
+slice-aggregate-solve : tie.Need-slice-aggregate-solve
+slice-aggregate-solve c = search needs
+
+slice-aggregate-solve-2 : tie.Need-slice-aggregate-solve-2
+slice-aggregate-solve-2 c = search needs
+
+slice-aggregate-solve-3 : tie.Need-slice-aggregate-solve-3
+slice-aggregate-solve-3 c = search needs
+
+solve-requires : tie.Need-solve-requires
+solve-requires c κs = (table-posed _ _ _ _ _ (c .before .before .before .before .before .before .before .before .before .before .before .before .before .before .before .before .before .before .before .before .before .before .before .args .present) (c .before .before .before .before .before .before .before .before .before .before .before .before .before .before .before .before .before .before .before .before .before .before .before .pre .0) _ _ (c .before .before .before .before .before .before .before .before .before .before .before .before .before .before .ordered .ensures) _ _ (c .before .before .before .before .before .before .relate .ensures), (c .before .before .before .before .before .before .before .before .before .before .before .before .before .before .before .before .before .before .before .before .before .before .before .pre .1))
+
+same-length : tie.Need-same-length
+same-length c = search needs
+
+returns : tie.Need-returns
+returns c = (c .before .before .solve .ensures) ∙ table-key _ _ _ _ _ (c .before .before .before .before .before .before .before .before .before .before .before .before .before .before .before .before .before .before .before .before .before .before .before .before .before .before .args .present) (c .before .before .before .before .before .before .before .before .before .before .before .before .before .before .before .before .before .before .before .before .before .before .before .before .before .before .pre .0) _ _ (c .before .before .before .before .before .before .before .before .before .before .before .before .before .before .before .before .before .ordered .ensures) _ _ (c .before .before .before .before .before .before .before .before .before .relate .ensures)
+
+pub best-key-spec : {M : Type 1} → statement M
+best-key-spec =
+    tie.close
+    (tie.spec
+    slice-aggregate-ordered
+    slice-aggregate-ordered-2
+    ordered-requires
+    array-share-prefix-lq
+    slice-aggregate-relate
+    array-share-prefix-lt
+    slice-aggregate-relate-2
+    slice-aggregate-relate-3
+    slice-aggregate-relate-4
+    slice-aggregate-relate-5
+    slice-aggregate-relate-6
+    relate-requires
+    slice-aggregate-solve
+    slice-aggregate-solve-2
+    slice-aggregate-solve-3
+    solve-requires
+    same-length
+    returns)

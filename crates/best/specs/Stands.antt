@@ -1,0 +1,45 @@
+-- How seeds stand to one another: the masks of those left of one and of those under it. Assumes nothing.
+use mathlib.Core.Path.{_≡_}
+use mathlib.Core.List.{List}
+use Prim.Native.Nat.{ℕ, _+_, _≤_, _<_}
+use lib.ListN.{length, getD}
+use Rattle.seed.specs.AreaList.{left, under}
+use Rattle.seed.specs.Pairs.{pairsOf}
+use Rattle.seed.specs.Store.{between}
+use Rattle.seed.specs.declared.Pair.{Pair}
+use Rattle.optimum.specs.Key.{maskOf}
+use Rattle.best.specs.Order.{Bounded}
+use Rattle.best.specs.declared.stands.Stand.{Stand}
+use Rattle.best.specs.declared.stands.Masks.{Masks}
+
+-- The nodes of seed i in one tree, and its pairs, from the lists of a store.
+unfoldable pub nodesOf : List ℕ → List ℕ → ℕ → List ℕ
+nodesOf nodes bounds i = between nodes (getD bounds i 0) (getD bounds (i + 1) 0)
+
+unfoldable pub pairsIn : List ℕ → List ℕ → List ℕ → ℕ → List Pair
+pairsIn qs ts bounds i = pairsOf (nodesOf qs bounds i) (nodesOf ts bounds i)
+
+-- How seed s stands to seed u.
+abbrev pub standOf : List ℕ → List ℕ → List Pair → List Pair → Stand
+standOf Q T s u = record { left = left Q T s u; under = under Q T s u }
+
+-- Which of the first n seeds stand left of seed u, and which under it.
+unfoldable pub masksOf : List ℕ → List ℕ → (ℕ → List Pair) → List Pair → ℕ → Masks
+masksOf Q T seed u n = record { left = maskOf (λ x. left Q T (seed x) u) n; under = maskOf (λ x. under Q T (seed x) u) n }
+
+-- The first m of a list are numbers of seeds that the lists of a store have.
+pub record Placed (qs ts bounds numbers : List ℕ) (m : ℕ) : Type 0 where
+  pub few : m ≤ 64
+  pub long : m ≤ length numbers
+  pub bounded-q : (k : ℕ) → k < m → Bounded qs bounds (getD numbers k 0)
+  pub bounded-t : (k : ℕ) → k < m → Bounded ts bounds (getD numbers k 0)
+
+-- The pairs of the seed whose number a list has at k.
+abbrev pub seedAt : List ℕ → List ℕ → List ℕ → List ℕ → ℕ → List Pair
+seedAt qs ts bounds numbers k = pairsIn qs ts bounds (getD numbers k 0)
+
+-- The masks of the first m seeds of a list: for each, of those before it.
+pub record Related (Q T : List ℕ) (seed : ℕ → List Pair) (m : ℕ) (lefts unders : List ℕ) : Type 0 where
+  pub lefts-long : length lefts ≡ 64
+  pub unders-long : length unders ≡ 64
+  pub are : (y : ℕ) → y < m → record { left = getD lefts y 0; under = getD unders y 0 } ≡ masksOf Q T seed (seed y) y

@@ -1,0 +1,109 @@
+// The table by which the best chain is found: for each item the best chain under it, and a row of the items left of one another.
+use super::keys::Stored;
+use super::keys::bit;
+use super::keys::clipped;
+use super::keys::consider;
+use super::keys::has;
+use super::keys::joined;
+use super::keys::key_at;
+use super::keys::put;
+ghost use mathlib.Core.Path.{_≡_};
+ghost use mathlib.Core.Bool.{true};
+ghost use Prim.Native.Nat.{_≤_};
+ghost use lib.Dec.{T};
+ghost use lib.ListN.{length};
+ghost use Rattle.optimum.specs.Key.{inMask};
+ghost use Rattle.optimum.specs.Table.{bestOf, maxBelow, stored};
+ghost use Rattle.best.specs.Table as spec;
+
+// Where the bank begins that has each item's key with the best chain under it.
+const ITEMS: usize = 0;
+
+// Where the bank of the row at hand begins.
+const ROWS: usize = 128;
+
+// The mask that has every item.
+const ALL: u64 = 18446744073709551615;
+
+// The best key of the row at hand among the first n items that a mask has, and of the empty chain.
+fn best_in(scratch: &[u64], mask: u64, n: usize) -> Stored
+    requires { ⌜ n ≤ 64 ⌝ ∗ ⌜ 256 ≤ length (now scratch) ⌝ }
+    ensures { λ r. ⌜ stored (r .total) (r .mask) ≡ maxBelow (inMask mask) (spec.keyAt (now (scratch .entry)) spec.rows) n ⌝ }
+{
+    let mut best = Stored { total: 0, mask: 0 };
+    let mut k = 0;
+    while k < n {
+        let on = has(mask, k);
+        let key = key_at(scratch, ROWS, k);
+        best = consider(best, on, key);
+        k += 1;
+    }
+    best
+}
+
+// The entry of item k in the row of the items that a mask has; the mask `left` has those left of it.
+fn entry(scratch: &[u64], row: u64, left: u64, k: usize) -> Stored
+    requires { ⌜ spec.EntryRoom (now scratch) row left k ⌝ }
+    ensures { λ r. ⌜ (T (inMask row k) → stored (r .total) (r .mask) ≡ spec.entryOf (now (scratch .entry)) row left k) ⌝ }
+{
+    if has(row, k) {
+        let best = best_in(scratch, row & left, k);
+        let key = key_at(scratch, ITEMS, k);
+        return joined(key, best);
+    }
+    Stored { total: 0, mask: 0 }
+}
+
+// Fills the row of the first n items that a mask has.
+fn fill_row(scratch: &mut [u64], lefts: &[u64], row: u64, n: usize)
+    requires { ⌜ spec.RowRoom (now scratch) (now lefts) row n ⌝ }
+    ensures { λ r. ⌜ spec.RowFilled (now (scratch .entry)) (now (lefts .entry)) row n (now (scratch .exit)) ⌝ }
+{
+    let mut k = 0;
+    while k < n {
+        let key = entry(scratch, row, lefts[k], k);
+        put(scratch, ROWS, k, key);
+        k += 1;
+    }
+}
+
+// Fills in the key of each of the first n items with the best chain under it.
+fn fill_items(
+    scratch: &mut [u64],
+    lefts: &[u64],
+    unders: &[u64],
+    numbers: &[u8],
+    scores: [i32; 64],
+    n: usize,
+)
+    requires { ⌜ spec.Posed (now lefts) (now unders) (now numbers) scores n ⌝ ∗ ⌜ 256 ≤ length (now scratch) ⌝ }
+    ensures { λ r. ⌜ spec.ItemsFilled (spec.itemsOf (now (lefts .entry)) (now (unders .entry)) (now (numbers .entry)) scores) (now (scratch .entry)) n (now (scratch .exit)) ⌝ }
+{
+    let mut y = 0;
+    while y < n {
+        let row = unders[y];
+        fill_row(scratch, lefts, row, y);
+        let under = best_in(scratch, row, y);
+        let number = numbers[y] as usize;
+        let key = clipped(scores[number], bit(number), under);
+        put(scratch, ITEMS, y, key);
+        y += 1;
+    }
+}
+
+// The best key of a chain of the first n items.
+pub fn solve(
+    scratch: &mut [u64],
+    lefts: &[u64],
+    unders: &[u64],
+    numbers: &[u8],
+    scores: [i32; 64],
+    n: usize,
+) -> Stored
+    requires { ⌜ spec.Posed (now lefts) (now unders) (now numbers) scores n ⌝ ∗ ⌜ 256 ≤ length (now scratch) ⌝ }
+    ensures { λ r. ⌜ stored (r .total) (r .mask) ≡ bestOf (spec.itemsOf (now (lefts .entry)) (now (unders .entry)) (now (numbers .entry)) scores) (λ x. true) n ⌝ }
+{
+    fill_items(scratch, lefts, unders, numbers, scores, n);
+    fill_row(scratch, lefts, ALL, n);
+    best_in(scratch, ALL, n)
+}

@@ -1,0 +1,7 @@
+pub mod Texts
+pub mod Decimals
+pub mod Lengths
+pub mod Members
+pub mod Parts
+pub mod Outputs
+pub mod Examples

@@ -1,0 +1,5 @@
+// Standard input's bytes to the printed lines.
+mod copy;
+mod input;
+mod lines;
+mod text;
