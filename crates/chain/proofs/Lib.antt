@@ -6,4 +6,6 @@ pub mod Grown
 pub mod Opened
 pub mod Dealt
 pub mod DeckOpened
+pub mod Looks
 pub mod Histories
+pub mod Demand

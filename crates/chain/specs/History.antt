@@ -5,7 +5,7 @@ use mathlib.Core.List.{List, [], _∷_, _++_}
 use Prim.Native.Nat.{ℕ, suc}
 use lib.IntN.{ℤ}
 use Rattle.seed.specs.declared.Pair.{Pair}
-use Rattle.chain.specs.State.{Row, rowOf, withRow, withScore, withPresence, newRow}
+use Rattle.chain.specs.State.{Row, State, rowOf, withRow, withScore, withPresence, newRow}
 
 pub data Call : Type 0 where
   add : List Pair → ℤ → Call
@@ -52,3 +52,7 @@ tableOf start (e ∷ es) = pick (e .accepted) (rowsBy (e .call) (tableOf start e
 unfoldable pub countOf : ℕ → List Event → ℕ
 countOf start [] = start
 countOf start (e ∷ es) = pick (e .accepted) (countBy (e .call) (countOf start es)) (countOf start es)
+
+-- The state by the history: the trees of the opening, and the table and the count of the list.
+abbrev pub stateOf : State → List Event → State
+stateOf start h = record { q = start .q; t = start .t; rows = tableOf (start .rows) h; changes = countOf (start .changes) h }

@@ -3,4 +3,5 @@ pub mod History
 pub mod Storing
 pub mod View
 pub mod Opening
+pub mod Looking
 pub mod Reached

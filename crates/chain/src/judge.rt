@@ -12,7 +12,7 @@ ghost use Rattle.answer.specs.declared.Answer.the-variants.{Refused};
 ghost use Rattle.chain.specs.State.{givenOut, inRange, countAnswer, rescoreAnswer, moveAnswer, limitAnswer};
 
 // Whether the number is one of 1 to seeds.
-fn given_out(seeds: usize, number: usize) -> bool
+pub fn given_out(seeds: usize, number: usize) -> bool
     ensures { λ r. ⌜ r ≡ givenOut seeds number ⌝ }
 {
     if number < 1 {

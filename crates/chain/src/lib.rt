@@ -8,17 +8,28 @@ mod store;
 use adding::judge_add;
 use adding::with_seed;
 use answer::Answer;
+use answer::Ground;
+use answer::Place;
+use best::Best;
+use judge::given_out;
 use judge::judge_move;
 use judge::judge_rescore;
 use opening::read_both;
 use opening::session_on;
 use seed::Store;
+use seed::area::Listed;
 use seed::pair_count;
 use tree::Tree;
 ghost use mathlib.Core.Path.{_≡_};
+ghost use Prim.Native.Nat.{_<_};
+ghost use Rattle.tree.specs.Reading.{leavesOf};
+ghost use Rattle.seed.specs.AreaList.{areas};
+ghost use Rattle.seed.specs.Listed.{ListedRight};
 ghost use Rattle.seed.specs.Pairs.{pairsOf};
+ghost use Rattle.seed.specs.Store.{pairsAt};
 ghost use Rattle.chain.specs.Opening.{opening, Opens};
 ghost use Rattle.chain.specs.State.{addAnswer, add, numberGiven, rescore, moveTo, withdraw, bringBack};
+ghost use Rattle.chain.specs.Looking.{Chains, Lists};
 ghost use Rattle.chain.specs.View.{view, Sound, Does};
 
 pub struct Session {
@@ -81,6 +92,21 @@ fn move_to(s: Session, number: usize, to: bool) -> Changed
             place: _,
         } => Changed { answer, session: s },
     }
+}
+
+// The open areas of the seed at a place.
+fn areas_at(s: Session, at: usize, out: &mut [u8]) -> Listed
+    requires { ⌜ (Sound s) × (at < s .seeds) ⌝ }
+    ensures { λ r. ⌜ ListedRight (areas (leavesOf (s .q)) (leavesOf (s .t)) (pairsAt (s .store) at)) (now (out .entry)) r (now (out .exit)) ⌝ }
+{
+    let q = s.q;
+    let t = s.t;
+    let store = s.store;
+    let qs = store.qs;
+    let ts = store.ts;
+    let from = store.bounds[at] as usize;
+    let to = store.bounds[at + 1] as usize;
+    seed::area::areas(q, t, &qs[from..to], &ts[from..to], out)
 }
 
 impl Session {
@@ -151,5 +177,35 @@ impl Session {
                 session: self,
             },
         }
+    }
+
+    // The best chain of the seeds that are present: its total, and for each number whether the chain has it.
+    pub fn best_chain(self, scratch: &mut [u64]) -> Best
+        requires { ⌜ Sound self ⌝ }
+        ensures { λ r. ⌜ Chains (view self) (now (scratch .entry)) (now (scratch .exit)) r ⌝ }
+    {
+        let q = self.q;
+        let t = self.t;
+        let store = self.store;
+        let scores = self.scores;
+        let present = self.present;
+        best::best_chain(q, t, store, self.seeds, scores, present, scratch)
+    }
+
+    // The open areas of a seed, present or not, written as four bytes each.
+    pub fn areas(self, number: usize, out: &mut [u8]) -> Listed
+        requires { ⌜ Sound self ⌝ }
+        ensures { λ r. ⌜ Lists (view self) number (now (out .entry)) (now (out .exit)) r ⌝ }
+    {
+        if !given_out(self.seeds, number) {
+            return Listed {
+                answer: Answer::Refused {
+                    ground: Ground::NumberNotGiven,
+                    place: Place::Nothing,
+                },
+                count: 0,
+            };
+        }
+        areas_at(self, number - 1, out)
     }
 }
