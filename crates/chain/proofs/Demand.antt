@@ -1,15 +1,14 @@
 -- Demand 3: after any list of calls from an opening, best chain names the best chain of the seeds that are present by the history, with exactly
 -- their sum; and every call answers by the history alone. Assumes nothing.
-use mathlib.Core.Path.{_≡_, sym, ap, subst, _∙_}
+use mathlib.Core.Path.{_≡_, subst}
 use mathlib.Core.List.{List}
-use Prim.Native.Nat.{ℕ, _≤_, _<_}
+use Prim.Native.Nat.{ℕ, _≤_}
 use native.Mathlib.Omega.{arith}
 use lib.ListN.{length}
 use borrow.Author.Tests.{le-ltb}
 use Rattle.tree.specs.Reading.{leavesOf}
 use Rattle.tree.proofs.Trees.{tree-nested}
 use Rattle.seed.specs.Seed.{Seed}
-use Rattle.seed.specs.declared.Pair.{Pair}
 use Rattle.best.specs.Best.{scratchNeeded, bestOf, NamesBest}
 use Rattle.best.specs.declared.Best.{Best}
 use Rattle.best.proofs.BestChain.{best-chain}
@@ -21,7 +20,7 @@ use Rattle.chain.specs.Reached.{Reached}
 use Rattle.chain.specs.declared.Session.{Session}
 use Rattle.chain.proofs.Tables.{table-length}
 use Rattle.chain.proofs.Looks.{pairs-row}
-use Rattle.chain.proofs.Histories.{Follows, reached}
+use Rattle.chain.proofs.Histories.{reached}
 
 -- What best chain answers on a session names the best chain of its table.
 names-best : (s : Session) → Sound s → (before after : List ℕ) (r : Best) → Chains (view s) before after r → scratchNeeded ≤ length before → NamesBest (seedsIn (view s)) r

@@ -9,3 +9,4 @@ pub mod DeckOpened
 pub mod Looks
 pub mod Histories
 pub mod Demand
+mod Examples

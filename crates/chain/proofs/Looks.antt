@@ -2,11 +2,11 @@
 use mathlib.Core.Path.{_≡_, refl, sym, ap, ap₂, _∙_}
 use mathlib.Core.Bool.{Bool, true, false, cond, _&&_}
 use mathlib.Core.List.{List}
-use Prim.Native.Nat.{ℕ, zero, suc, _+_, _-_, _≤_, _<_}
+use Prim.Native.Nat.{ℕ, zero, suc, _-_, _≤_, _<_}
 use native.Mathlib.Omega.{arith}
-use lib.ListN.{length, getD}
+use lib.ListN.{length}
 use lib.IntN.{ℤ, pos, negsuc}
-use lib.Signed.{leZ, _≤ℤ_, leZ-yes}
+use lib.Signed.{leZ, leZ-yes}
 use lib.Dec.{T}
 use Rattle.tree.specs.Reading.{leavesOf}
 use Rattle.seed.specs.Pairs.{Held}
@@ -14,11 +14,9 @@ use Rattle.seed.specs.AreaList.{chainable, areas}
 use Rattle.seed.specs.Area.{Box}
 use Rattle.seed.specs.Listed as list
 use Rattle.seed.specs.Store.{pairsAt}
-use Rattle.seed.specs.declared.Pair.{Pair}
 use Rattle.seed.specs.declared.area.Listed.{Listed}
 use Rattle.optimum.specs.Key.{Key, _⊕_, better, seedKey}
 use Rattle.optimum.specs.Best as optimum
-use Rattle.optimum.proofs.Booleans.{T-eq}
 use Rattle.best.specs.Best.{keyOf, bestOf, scoreAt, presentAt, Handed, Answered}
 use Rattle.best.specs.declared.Best.{Best}
 use Rattle.chain.specs.State.{Row, noRow, rowOf, givenOut, inRange}
@@ -59,9 +57,9 @@ module _ (s : Session) where
       let T′ : List ℕ = leavesOf (s .t) in
       rw (
         best-same (λ i j. chainable Q T′ (pairsAt (s .store) i) (pairsAt (s .store) j)) (λ i j. chainable Q T′ (pairsIn (table s) i) (pairsIn (table s) j)) (seedKey (scoreAt (s .scores))) (seedKey (scoreIn (table s))) (s .seeds)
-          (λ i j a b. ap₂ (chainable Q T′) (pairs-row i a) (pairs-row j b))
-          (λ i a. ap (λ (z : ℤ). record { total = z; mask = seedKey (scoreAt (s .scores)) i .mask }) (score-row i a))
-          (s .seeds) (omega arith) (presentAt (s .present)) (presentIn (table s)) present-row,
+            (λ i j a b. ap₂ (chainable Q T′) (pairs-row i a) (pairs-row j b))
+            (λ i a. ap (λ (z : ℤ). record { total = z; mask = seedKey (scoreAt (s .scores)) i .mask }) (score-row i a))
+            (s .seeds) (omega arith) (presentAt (s .present)) (presentIn (table s)) present-row,
         table-length s,
       )
 
