@@ -1,3 +1,5 @@
 pub mod Deck
 pub mod Handed
 pub mod Grounds
+pub mod Walking
+pub mod Writing

@@ -1,0 +1,17 @@
+pub mod Lists
+pub mod Numbers
+pub mod Records
+pub mod Counting
+pub mod Walks
+pub mod Grounds
+pub mod Walking
+pub mod Stores
+pub mod Accepted
+pub mod Writing
+pub mod Present
+pub mod Parts
+pub mod PlainForm
+pub mod Layouts
+pub mod PlainWalk
+pub mod RoundTrip
+pub mod Examples
