@@ -33,17 +33,14 @@ mask-same f g (suc n) h = cc (mask-same f g n (λ i b. h i (omega arith)), h n (
 -- A mask has the numbers below n that pass, and no other.
 pub mask-has : (f : ℕ → Bool) (n i : ℕ) → inMask (maskOf f n) i ≡ (ltb i n && f i)
 mask-has f n i =
-    ap (λ m. inMask m i) (mask-same f (λ j. ltb j n && f j) n (λ j b. go j (lt→ltb j n b)))
+    ap (λ m. inMask m i) (mask-same f (λ j. ltb j n && f j) n (λ j b. rw (T-eq {b = ltb j n} (lt→ltb j n b))))
     ∙ mask-bit (λ j. ltb j n && f j) n (λ j t. ltb→lt j n (and-l (ltb j n) (f j) t)) i
-  where
-    go : (j : ℕ) → T (ltb j n) → f j ≡ (ltb j n && f j)
-    go j t = on (ltb j n) t
-      where
-        on : (b : Bool) → T b → f j ≡ (b && f j)
-        on true t = refl
-        on false t = absurd t
 
--- One number more, which a program adds if it is on.
+-- A mask that a program makes: of no numbers, and of one number more if it is on.
+pub mask-start : (f : ℕ → Bool) → 0 ≡ maskOf f 0
+unfolding maskOf
+mask-start f = refl
+
 pub mask-more : (f : ℕ → Bool) (n : ℕ) {on : Bool} {m r : ℕ} → m ≡ maskOf f n → on ≡ f n → r ≡ cond on (2 ^ n + m) m → r ≡ maskOf f (n + 1)
 unfolding maskOf
 mask-more f n e g h = rw (add-one n, ← e, ← g) h

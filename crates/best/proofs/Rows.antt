@@ -30,41 +30,40 @@ pub row-start : (xs lefts : List ℕ) (row : ℕ) → RowFilled xs lefts row 0 x
 unfolding Row
 row-start xs lefts row = record { long = refl; row-is = λ k b. absurd (omega arith); kept = λ i b. refl }
 
-module _ (xs lefts : List ℕ) (row n : ℕ) where
-  module _ (h : RowRoom xs lefts row n) (k : ℕ) (b : k < n) (ys : List ℕ) (f : RowFilled xs lefts row k ys) where
-    -- The entry by the row so far.
-    entry-is : entryOf ys row (getD lefts k 0) k ≡ keyAt xs items k ⊕ maxBelow (λ j. inMask row j && marked lefts j k) (keyAt ys rows) k
-    unfolding entryOf
-    entry-is =
-        ap₂ _⊕_
-        (ap₂ stored (f .kept (items + k) (omega (arith, h .few))) (f .kept (items + 64 + k) (omega (arith, h .few))))
-        (ap (λ p. maxBelow p (keyAt ys rows) k) (sym (both lefts row k)))
+module _ (xs lefts : List ℕ) (row n : ℕ) (h : RowRoom xs lefts row n) (k : ℕ) (b : k < n) (ys : List ℕ) (f : RowFilled xs lefts row k ys) where
+  -- The entry by the row so far.
+  entry-is : entryOf ys row (getD lefts k 0) k ≡ keyAt xs items k ⊕ maxBelow (λ j. inMask row j && marked lefts j k) (keyAt ys rows) k
+  unfolding entryOf
+  entry-is =
+      ap₂ _⊕_
+      (ap₂ stored (f .kept (items + k) (omega (arith, h .few))) (f .kept (items + 64 + k) (omega (arith, h .few))))
+      (ap (λ p. maxBelow p (keyAt ys rows) k) (sym (both lefts row k)))
 
-    pub row-room : EntryRoom ys row (getD lefts k 0) k
-    row-room =
-        record {
-          few = omega (arith, h .few);
-          long = omega (arith, h .long, f .long);
-          small = λ t u m e. h .small (keyAt ys rows) k b t (f .row-is) u m (sym entry-is ∙ e);
-        }
+  pub row-room : EntryRoom ys row (getD lefts k 0) k
+  row-room =
+      record {
+        few = omega (arith, h .few);
+        long = omega (arith, h .long, f .long);
+        small = λ t u m e. h .small (keyAt ys rows) k b t (f .row-is) u m (sym entry-is ∙ e);
+      }
 
-    -- One entry more.
-    pub row-turn : (zs : List ℕ) (t m : ℕ) → (T (inMask row k) → stored t m ≡ entryOf ys row (getD lefts k 0) k) → zs ≡ set (set ys (rows + k) t) (rows + 64 + k) m → RowFilled xs lefts row (k + 1) zs
-    row-turn zs t m e g =
-        record {
-          long = put-long ys zs rows k t m g ∙ f .long;
-          row-is =
-              rw (add-one k)
-              (row-next (marked lefts) (inMask row) (keyAt xs items) (keyAt ys rows) (keyAt zs rows) k (f .row-is)
-              (put-before ys zs rows k t m g few room) (λ on. put-here ys zs rows k t m g few room ∙ e on ∙ entry-is));
-          kept = λ i a. put-beside ys zs rows k t m g i (λ x. omega arith) (λ x. omega arith) ∙ f .kept i a;
-        }
-      where
-        few : k < 64
-        few = omega (arith, h .few)
+  -- One entry more.
+  pub row-turn : (zs : List ℕ) (t m : ℕ) → (T (inMask row k) → stored t m ≡ entryOf ys row (getD lefts k 0) k) → zs ≡ set (set ys (rows + k) t) (rows + 64 + k) m → RowFilled xs lefts row (k + 1) zs
+  row-turn zs t m e g =
+      record {
+        long = put-long ys zs rows k t m g ∙ f .long;
+        row-is =
+            rw (add-one k)
+            (row-next (marked lefts) (inMask row) (keyAt xs items) (keyAt ys rows) (keyAt zs rows) k (f .row-is)
+            (put-before ys zs rows k t m g few room) (λ on. put-here ys zs rows k t m g few room ∙ e on ∙ entry-is));
+        kept = λ i a. put-beside ys zs rows k t m g i (λ x. omega arith) (λ x. omega arith) ∙ f .kept i a;
+      }
+    where
+      few : k < 64
+      few = omega (arith, h .few)
 
-        room : rows + 128 ≤ length ys
-        room = omega (arith, h .long, f .long)
+      room : rows + 128 ≤ length ys
+      room = omega (arith, h .long, f .long)
 
 -- An entry that is small is added with no overflow.
 pub entry-room : (xs : List ℕ) (row left k : ℕ) → EntryRoom xs row left k → T (inMask row k) → (t m t′ m′ : ℕ) → stored t m ≡ keyAt xs items k → stored t′ m′ ≡ maxBelow (inMask (bitAnd row left)) (keyAt xs rows) k → (t + t′ < 2 ^ 64) × (m + m′ < 2 ^ 64)

@@ -1,5 +1,5 @@
 -- How the seeds of a list stand to one another, filled in seed by seed. Assumes nothing.
-use mathlib.Core.Path.{_≡_, refl}
+use mathlib.Core.Path.{_≡_}
 use mathlib.Core.Bool.{Bool}
 use mathlib.Core.List.{List}
 use Prim.Native.Nat.{ℕ, _+_, _<_}
@@ -30,11 +30,7 @@ fewer-placed qs ts bounds numbers y m b h =
       bounded-t = λ k a. h .bounded-t k (omega arith);
     }
 
--- The masks of none, and of all seeds before one.
-pub mask-start : (f : ℕ → Bool) → 0 ≡ maskOf f 0
-unfolding maskOf
-mask-start f = refl
-
+-- The two masks of the seeds before one.
 pub masks-are : (Q T : List ℕ) (seed : ℕ → List Pair) (u : List Pair) (n : ℕ) {l m : ℕ} → l ≡ maskOf (λ x. left Q T (seed x) u) n → m ≡ maskOf (λ x. under Q T (seed x) u) n → _≡_ {A = Masks} (record { left = l; under = m }) (masksOf Q T seed u n)
 unfolding masksOf
 masks-are Q T seed u n e f = rw (← e, ← f)

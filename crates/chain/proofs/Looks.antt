@@ -1,10 +1,10 @@
 -- What the calls that change no session answer, by the table. Assumes nothing.
-use mathlib.Core.Path.{_≡_, refl, sym, ap, ap₂, _∙_}
+use mathlib.Core.Path.{_≡_, refl, sym, ap, ap₂, subst, _∙_}
 use mathlib.Core.Bool.{Bool, true, false, cond, _&&_}
-use mathlib.Core.List.{List}
+use mathlib.Core.List.{List, [], _∷_, _++_}
 use Prim.Native.Nat.{ℕ, zero, suc, _-_, _≤_, _<_}
 use native.Mathlib.Omega.{arith}
-use lib.ListN.{length}
+use lib.ListN.{length, getD}
 use lib.IntN.{ℤ, pos, negsuc}
 use lib.Signed.{leZ, leZ-yes}
 use lib.Dec.{T}
@@ -19,9 +19,15 @@ use Rattle.optimum.specs.Key.{Key, _⊕_, better, seedKey}
 use Rattle.optimum.specs.Best as optimum
 use Rattle.best.specs.Best.{keyOf, bestOf, scoreAt, presentAt, Handed, Answered}
 use Rattle.best.specs.declared.Best.{Best}
+use Rattle.deck.specs.Deck.{DeckRow}
+use Rattle.deck.specs.Handed as deck
+use Rattle.deck.specs.Handed.{presentOf, Writes}
+use Rattle.deck.specs.declared.Written.{Written}
+use Rattle.seed.specs.Tab.{tab}
+use Rattle.seed.proofs.Tabs.{tab-more}
 use Rattle.chain.specs.State.{Row, noRow, rowOf, givenOut, inRange}
 use Rattle.chain.specs.View.{rowAt, table, view, Sound}
-use Rattle.chain.specs.Looking.{pairsIn, scoreIn, presentIn, bestChain, Chains, areasOf, listedIf, leftIf, Lists}
+use Rattle.chain.specs.Looking.{deckRow, deckRows, pairsIn, scoreIn, presentIn, bestChain, Chains, areasOf, listedIf, leftIf, Lists}
 use Rattle.chain.specs.declared.Session.{Session}
 use Rattle.chain.proofs.Judging.{Given, given-out, and-left, and-right}
 use Rattle.chain.proofs.Tables.{table-length, table-at}
@@ -110,3 +116,32 @@ module _ (s : Session) where
           answers = sym (ap (λ (b : Bool). listedIf b (areasOf (view s) k) before) g);
           output = sym (ap (λ (b : Bool). leftIf b (areasOf (view s) k) before) g);
         }
+
+-- The present seeds of the store are the present rows of the table.
+rows-append : (xs : List Row) (y : Row) → deckRows (xs ++ y ∷ []) ≡ deckRows xs ++ cond (y .present) (deckRow y ∷ []) []
+unfolding deckRows
+rows-append [] y = go (y .present)
+  where
+    go : (b : Bool) → cond b (deckRow y ∷ []) [] ≡ [] ++ cond b (deckRow y ∷ []) []
+    go true = refl
+    go false = refl
+rows-append (x ∷ xs) y = go (x .present) (rows-append xs y)
+  where
+    Y : List DeckRow
+    Y = cond (y .present) (deckRow y ∷ []) []
+
+    go : (b : Bool) → deckRows (xs ++ y ∷ []) ≡ deckRows xs ++ Y → cond b (deckRow x ∷ deckRows (xs ++ y ∷ [])) (deckRows (xs ++ y ∷ [])) ≡ cond b (deckRow x ∷ deckRows xs) (deckRows xs) ++ Y
+    go true e = ap (λ (l : List DeckRow). deckRow x ∷ l) e
+    go false e = e
+
+deck-rows-below : (s : Session) (n : ℕ) → presentOf (s .present) (deck.rowAt (s .store) (s .scores)) n ≡ deckRows (tab n (rowAt s))
+unfolding presentOf deckRows tab rowAt deck.rowAt
+deck-rows-below s zero = refl
+deck-rows-below s (suc n) =
+    ap (λ (l : List DeckRow). l ++ cond (getD (s .present) n false) (deck.rowAt (s .store) (s .scores) n ∷ []) []) (deck-rows-below s n)
+    ∙ sym (rows-append (tab n (rowAt s)) (rowAt s n))
+    ∙ ap deckRows (sym (tab-more n (rowAt s) (rowAt s) (λ i l. refl)))
+
+pub writes : (s : Session) (before after : List ℕ) (r : Written) → Writes (presentOf (s .present) (deck.rowAt (s .store) (s .scores)) (s .seeds)) before after r → Writes (deckRows (table s)) before after r
+unfolding table
+writes s before after r w = subst (λ (rows : List DeckRow). Writes rows before after r) (deck-rows-below s (s .seeds)) w

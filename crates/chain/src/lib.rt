@@ -11,6 +11,9 @@ use answer::Answer;
 use answer::Ground;
 use answer::Place;
 use best::Best;
+use deck::Written;
+use deck_seeds::judge_seeds;
+use deck_seeds::session_with;
 use judge::given_out;
 use judge::judge_move;
 use judge::judge_rescore;
@@ -20,16 +23,18 @@ use seed::Store;
 use seed::area::Listed;
 use seed::pair_count;
 use tree::Tree;
+use tree::single_tree;
 ghost use mathlib.Core.Path.{_≡_};
 ghost use Prim.Native.Nat.{_<_};
-ghost use Rattle.tree.specs.Reading.{leavesOf};
+ghost use Rattle.tree.specs.Reading.{treeOf, single, leavesOf};
 ghost use Rattle.seed.specs.AreaList.{areas};
 ghost use Rattle.seed.specs.Listed.{ListedRight};
 ghost use Rattle.seed.specs.Pairs.{pairsOf};
 ghost use Rattle.seed.specs.Store.{pairsAt};
-ghost use Rattle.chain.specs.Opening.{opening, Opens};
+ghost use Rattle.deck.specs.Handed.{Writes};
+ghost use Rattle.chain.specs.Opening.{start, opening, deckOpening, Opens};
 ghost use Rattle.chain.specs.State.{addAnswer, add, numberGiven, rescore, moveTo, withdraw, bringBack};
-ghost use Rattle.chain.specs.Looking.{Chains, Lists};
+ghost use Rattle.chain.specs.Looking.{Chains, Lists, deckRows};
 ghost use Rattle.chain.specs.View.{view, Sound, Does};
 
 pub struct Session {
@@ -66,6 +71,47 @@ pub fn open(q: &[u8], t: &[u8]) -> Changed
     Changed {
         answer,
         session: session_on(tree_q, tree_t),
+    }
+}
+
+// A refusal, with the session of "." and ".".
+fn refused_opening(answer: Answer) -> Changed
+    ensures { λ r. ⌜ (r .answer ≡ answer) × (view (r .session) ≡ start (treeOf single) (treeOf single)) × Sound (r .session) ⌝ }
+{
+    let tree = single_tree();
+    Changed {
+        answer,
+        session: session_on(tree, tree),
+    }
+}
+
+// A session on two texts with the seeds of a deck, all present. Refused, it is that of "." and ".".
+pub fn open_deck(q: &[u8], t: &[u8], deck: &[u8]) -> Changed
+    ensures { λ r. ⌜ Opens (deckOpening (now (q .entry)) (now (t .entry)) (now (deck .entry))) (r .answer) (r .session) ⌝ }
+{
+    let both = read_both(q, t);
+    let texts = both.answer;
+    match texts {
+        Answer::Accepted => {}
+        _ => return refused_opening(texts),
+    }
+    let dealt = deck::read(deck);
+    let layout = dealt.answer;
+    match layout {
+        Answer::Accepted => {}
+        _ => return refused_opening(layout),
+    }
+    let tree_q = both.q;
+    let tree_t = both.t;
+    let store = dealt.store;
+    let scores = dealt.scores;
+    let answer = judge_seeds(tree_q, tree_t, store, dealt.seeds, scores);
+    match answer {
+        Answer::Accepted => Changed {
+            answer,
+            session: session_with(tree_q, tree_t, store, dealt.seeds, scores),
+        },
+        _ => refused_opening(answer),
     }
 }
 
@@ -207,5 +253,16 @@ impl Session {
             };
         }
         areas_at(self, number - 1, out)
+    }
+
+    // The deck of the present seeds in plain form.
+    pub fn write_deck(self, out: &mut [u8]) -> Written
+        requires { ⌜ Sound self ⌝ }
+        ensures { λ r. ⌜ Writes (deckRows (view self .rows)) (now (out .entry)) (now (out .exit)) r ⌝ }
+    {
+        let store = self.store;
+        let scores = self.scores;
+        let present = self.present;
+        deck::write(store, self.seeds, scores, present, out)
     }
 }

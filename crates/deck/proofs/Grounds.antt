@@ -149,6 +149,7 @@ module _ (d : List ℕ) (h : Layout d) where
     where
       e : Ended ss ps done
       e = record { walked = w; all = l }
+
       go : (b : Bool) → allIn (length ps) (flatten done) ≡ b → Said-of
       go true a = (_, seeds h e (λ k r. true≢false (sym (all-in (length ps) (flatten done) a k (r .low) (r .high)) ∙ r .never)))
       go false a = (_, ground8 h e (never-reached ss ps done a .1))
@@ -156,7 +157,7 @@ module _ (d : List ℕ) (h : Layout d) where
   judged-seed : {done : List (List ℕ)} → Walked ss ps done → length done < length ss → ((mine : List ℕ) → Walked ss ps (done ++ mine ∷ []) → Said-of) → Said-of
   judged-seed {done} w l more = ⊎-elim
       (λ z. let e : firstOf ss (length done) ≡ 0 = omega arith in
-          (_, ground6 h (first-zero (comes-to w l (subst (Passes ps (flatten done) (firstOf ss (length done)) []) e here)) refl)))
+      (_, ground6 h (first-zero (comes-to w l (subst (Passes ps (flatten done) (firstOf ss (length done)) []) e here)) refl)))
       (λ z. go z (goes ps (flatten done) (firstOf ss (length done)) (counted-walked ss ps w) (length ps) (omega arith) here))
       (lt-or-le (firstOf ss (length done)) 1)
     where

@@ -68,8 +68,8 @@ module _ (s : Store) (scores : List ℤ) (present : List Bool) (n : ℕ) (h : La
         place = omega (arith, w .place, count-more s n h present i l e);
         number = omega (arith, w .number, total-more s n h present i l e);
         wrote =
-          put-after before 4 (seedPart rows) _ (w .wrote) a at-is
-          ∙ ap (sets before 4)
+            put-after before 4 (seedPart rows) _ (w .wrote) a at-is
+            ∙ ap (sets before 4)
             (ap₂ (λ (y : ℤ) (m : ℕ). seedPart rows ++ seedBytes (record { score = y; first = m })) f first-is
             ∙ sym (seed-part-more rows (rowAt s scores i))
             ∙ ap seedPart (sym (present-more present (rowAt s scores) i e)));
@@ -103,8 +103,8 @@ module _ (s : Store) (present : List Bool) (n start : ℕ) (h : Laid s n) {befor
         place = omega (arith, w .place, total-more s n h present i l e);
         number = omega (arith, w .number, total-more s n h present i l e);
         wrote =
-          put-after before start (pairPart (plainPairs 1 cs)) _ (w .wrote) a at-is
-          ∙ ap (sets before start)
+            put-after before start (pairPart (plainPairs 1 cs)) _ (w .wrote) a at-is
+            ∙ ap (sets before start)
             (ap (λ (m : ℕ). pairPart (plainPairs 1 cs) ++ pairPart (plainChain m (pairsAt s i))) (w .number)
             ∙ sym (ap pairPart (ap (plainPairs 1) (present-more present (pairsAt s) i e) ∙ pairs-more 1 cs (pairsAt s i)) ∙ pair-part-append (plainPairs 1 cs) (plainChain (1 + length (flatten cs)) (pairsAt s i))));
       }

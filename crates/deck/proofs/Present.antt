@@ -37,7 +37,7 @@ module _ {A : Type 0} (present : List Bool) (f : ℕ → A) where
   present-rest i zero h = ([], let e : i ≡ 0 = omega arith in rw e)
   present-rest i (suc n) h = ⊎-elim
       (λ l. let w = present-rest i n (omega arith) in
-          (w .0 ++ cond (getD present n false) (f n ∷ []) [], rw (w .1, append-assoc (presentOf present f i) (w .0) (cond (getD present n false) (f n ∷ []) []))))
+      (w .0 ++ cond (getD present n false) (f n ∷ []) [], rw (w .1, append-assoc (presentOf present f i) (w .0) (cond (getD present n false) (f n ∷ []) []))))
       (λ l. ([], let e : suc n ≡ i = omega arith in ap (presentOf present f) e ∙ sym (append-nil (presentOf present f i))))
       (lt-or-le i (suc n))
 

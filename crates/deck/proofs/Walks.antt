@@ -87,7 +87,7 @@ module _ (ss : List SeedRecord) (ps : List PairRecord) where
       let x = seeds-left (length done) h in
       ap (λ (l : List SeedRecord). walks ps done l) (x .1)
       ∙ ap (λ (k : Chain). follow k (λ mine. walks ps (done ++ mine ∷ []) (drop (suc (length done)) ss)) (λ g. met g (suc (length done))))
-          (ap (seedWalk ps (flatten done)) (x .2) ∙ e)
+      (ap (seedWalk ps (flatten done)) (x .2) ∙ e)
 
   length-more : {A : Type 0} (l : List A) (x : A) → length (l ++ x ∷ []) ≡ suc (length l)
   length-more l x = length-append l (x ∷ []) ∙ add-one (length l)

@@ -81,7 +81,13 @@ pub fn read(deck: &[u8]) -> DeckRead
 }
 
 // Writes the present seeds in plain form, and answers how many bytes that is.
-pub fn write(store: Store, seeds: usize, scores: [i32; 64], present: [bool; 64], out: &mut [u8]) -> Written
+pub fn write(
+    store: Store,
+    seeds: usize,
+    scores: [i32; 64],
+    present: [bool; 64],
+    out: &mut [u8],
+) -> Written
     requires { ⌜ Laid store seeds ⌝ }
     ensures { λ r. ⌜ Writes (presentOf present (rowAt store scores) seeds) (now (out .entry)) (now (out .exit)) r ⌝ }
 {

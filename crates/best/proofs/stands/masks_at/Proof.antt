@@ -7,8 +7,8 @@ use Rattle.optimum.specs.Key.{maskOf}
 use Rattle.optimum.proofs.Masks.{mask-below}
 use Rattle.best.specs.Stands.{seedAt}
 use Rattle.best.specs.declared.stands.Stand.{Stand}
-use Rattle.best.proofs.Bits.{mask-more}
-use Rattle.best.proofs.Standing.{mask-start, masks-are}
+use Rattle.best.proofs.Bits.{mask-start, mask-more}
+use Rattle.best.proofs.Standing.{masks-are}
 use Rattle.best.proofs.stands.masks_at.Statement.{statement}
 use Rattle.best.proofs.stands.masks_at.Tie as tie
 

@@ -5,32 +5,22 @@ use Rattle.chain.proofs.Looks.{known, place, lists, lists-not}
 use borrow.Author.Needs.{needs}
 use Rattle.chain.proofs.Session.areas.Statement.{statement}
 use Rattle.chain.proofs.Session.areas.Tie as tie
-use Rattle.chain.proofs.Session.areas.Reads as reads
-use Rattle.chain.proofs.Session.areas.Lts as lts
-use Rattle.chain.proofs.areas_at.Reads as areas-at-reads
-use Rattle.chain.proofs.judge.given_out.Reads as given-out-reads
 
--- src/lib.rt:200:13
 given-out-requires : tie.Need-given-out-requires
 given-out-requires c κs = search needs
 
--- src/lib.rt:201:13
 returns : tie.Need-returns
 returns c = lists-not _ (c .before .before .before .pre) _ (sym (c .before .given-out .ensures) ∙ not-true _ (c .if1 .taken)) _
 
--- src/lib.rt:209:24
 sub-areas-at : tie.Need-sub-areas-at
 sub-areas-at c = known _ (c .before .before .before .pre) _ (sym (c .before .given-out .ensures) ∙ not-false _ (c .if1 .left)) .low
 
--- src/lib.rt:209:9
 areas-at-requires : tie.Need-areas-at-requires
 areas-at-requires c κs = ((c .before .before .before .before .pre), place _ (c .before .before .before .before .pre) _ (sym (c .before .before .given-out .ensures) ∙ not-false _ (c .before .if1 .left)))
 
--- src/lib.rt:196:5
 same-length : tie.Need-same-length
 same-length c = search needs
 
--- src/lib.rt:196:5
 returns-2 : tie.Need-returns-2
 returns-2 c = lists _ (c .before .before .before .before .before .before .before .pre) _ (sym (c .before .before .before .before .before .given-out .ensures) ∙ not-false _ (c .before .before .before .before .if1 .left)) _ _ _ (c .before .before .areas-at .ensures)
 

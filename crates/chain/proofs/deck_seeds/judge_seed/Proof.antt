@@ -7,76 +7,55 @@ use Rattle.chain.proofs.Dealt.{part-low, part-high}
 use borrow.Author.Needs.{needs}
 use Rattle.chain.proofs.deck_seeds.judge_seed.Statement.{statement}
 use Rattle.chain.proofs.deck_seeds.judge_seed.Tie as tie
-use Rattle.chain.proofs.deck_seeds.judge_seed.Reads as reads
-use Rattle.chain.proofs.deck_seeds.judge_seed.Lts as lts
-use Rattle.chain.proofs.judge.in_range.Reads as in-range-reads
-use Rattle.seed.proofs.judge.judge.Reads as judge-reads
 
--- src/deck_seeds.rt:26:18
 add-number : tie.Need-add-number
 add-number c = search needs
 
--- src/deck_seeds.rt:27:9
 in-range-requires : tie.Need-in-range-requires
 in-range-requires c κs = search needs
 
--- src/deck_seeds.rt:28:9
 returns : tie.Need-returns
 returns c = rw (tested (rw (toZ-ofZ (c .before .before .fits .score)) at (c .before .in-range .ensures)) (c .if1 .taken))
 
--- src/deck_seeds.rt:35:16
 mul-from : tie.Need-mul-from
 mul-from c = search needs
 
--- src/deck_seeds.rt:35:16
 element-copy-out-from : tie.Need-element-copy-out-from
 element-copy-out-from c = search needs
 
--- src/deck_seeds.rt:35:16
 cast-from : tie.Need-cast-from
 cast-from c = search needs
 
--- src/deck_seeds.rt:36:14
 mul-to : tie.Need-mul-to
 mul-to c = search needs
 
--- src/deck_seeds.rt:36:14
 element-copy-out-to : tie.Need-element-copy-out-to
 element-copy-out-to c = search needs
 
--- src/deck_seeds.rt:36:14
 cast-to : tie.Need-cast-to
 cast-to c = search needs
 
--- src/deck_seeds.rt:37:17
 sub-judge : tie.Need-sub-judge
 sub-judge c = part-low _ _ (c .before .before .before .before .before .before .pre .2) _ (c .before .before .before .before .before .before .pre .3)
 
--- src/deck_seeds.rt:37:17
 part-judge-start : tie.Need-part-judge-start
 part-judge-start c = part-low _ _ (c .before .before .before .before .before .before .before .pre .2) _ (c .before .before .before .before .before .before .before .pre .3)
 
--- src/deck_seeds.rt:37:17
 part-judge-end : tie.Need-part-judge-end
 part-judge-end c = omega (arith, part-high _ _ (c .before .before .before .before .before .before .before .pre .2) _ (c .before .before .before .before .before .before .before .pre .3))
 
--- src/deck_seeds.rt:37:32
 sub-judge-2 : tie.Need-sub-judge-2
 sub-judge-2 c = part-low _ _ (c .before .before .before .before .before .before .before .before .pre .2) _ (c .before .before .before .before .before .before .before .before .pre .3)
 
--- src/deck_seeds.rt:37:32
 part-judge-start-2 : tie.Need-part-judge-start-2
 part-judge-start-2 c = part-low _ _ (c .before .before .before .before .before .before .before .before .before .pre .2) _ (c .before .before .before .before .before .before .before .before .before .pre .3)
 
--- src/deck_seeds.rt:37:32
 part-judge-end-2 : tie.Need-part-judge-end-2
 part-judge-end-2 c = omega (arith, part-high _ _ (c .before .before .before .before .before .before .before .before .before .pre .2) _ (c .before .before .before .before .before .before .before .before .before .pre .3))
 
--- src/deck_seeds.rt:37:5
 judge-requires : tie.Need-judge-requires
 judge-requires c κs = search needs
 
--- src/deck_seeds.rt:22:1
 returns-2 : tie.Need-returns-2
 unfolding pairsAt between bound
 returns-2 c = rw (tested (rw (toZ-ofZ (c .before .before .before .before .before .before .before .before .before .before .before .fits .score)) at (c .before .before .before .before .before .before .before .before .before .before .in-range .ensures)) (c .before .before .before .before .before .before .before .before .before .if1 .left)) (c .judge .ensures)

@@ -9,9 +9,6 @@ use Rattle.chain.proofs.Judging.{clash}
 use Rattle.chain.proofs.Dealt.{Passed, seeds-start, seeds-stop, seeds-next, seeds-end}
 use Rattle.chain.proofs.deck_seeds.judge_seeds.Statement.{statement}
 use Rattle.chain.proofs.deck_seeds.judge_seeds.Tie as tie
-use Rattle.chain.proofs.deck_seeds.judge_seeds.Reads as reads
-use Rattle.chain.proofs.deck_seeds.judge_seeds.Lts as lts
-use Rattle.chain.proofs.deck_seeds.judge_seed.Reads as judge-seed-reads
 
 abbrev Inv-loop : tie.InvT-loop
 Inv-loop q t store seeds scores i₀ i = Passed (leavesOf q) (leavesOf t) seeds (rowAt store scores) i
@@ -19,48 +16,38 @@ Inv-loop q t store seeds scores i₀ i = Passed (leavesOf q) (leavesOf t) seeds 
 abbrev μ-loop : tie.MeasureT-loop
 μ-loop q t store seeds scores i₀ i = seeds - i
 
--- src/deck_seeds.rt:46:5
 loop-holds : tie.Need-loop-holds Inv-loop μ-loop
 loop-holds c = seeds-start _ _ _ _
 
--- src/deck_seeds.rt:47:56
 mul-judge-seed : tie.Need-mul-judge-seed Inv-loop μ-loop
 mul-judge-seed c = omega (arith, (c .before .before .pre .2 .seeds))
 
--- src/deck_seeds.rt:47:56
 array-copy-out-judge-seed : tie.Need-array-copy-out-judge-seed Inv-loop μ-loop
 array-copy-out-judge-seed c = omega (arith, (c .before .before .pre .2 .seeds))
 
--- src/deck_seeds.rt:47:13
 judge-seed-requires : tie.Need-judge-seed-requires Inv-loop μ-loop
 judge-seed-requires c κs = ((c .before .before .before .pre .0), (c .before .before .before .pre .1), (c .before .before .before .pre .2), (c .before .loop-test .taken))
 
 enum-told : tie.Need-enum-told Inv-loop μ-loop
 enum-told c = (c .match .keys1)
 
--- src/deck_seeds.rt:50:18
 enum-told-2 : tie.Need-enum-told-2 Inv-loop μ-loop
 enum-told-2 c = (c .match .keys2)
 
--- src/deck_seeds.rt:50:18
 returns : tie.Need-returns Inv-loop μ-loop
 unfolding rowAt
 returns c = seeds-stop _ _ _ _ _ (c .before .before .before .before .loop-test .taken) (c .before .before .before .before .before .loop .inv) _ (rw (toZ-ofZ (sfits-of (c .before .before .before .judge-seed-arg .given))) at (c .before .before .judge-seed .ensures)) (λ e. let f = (c .enum-told2 .given .1) in clash (cc))
 
--- src/deck_seeds.rt:52:9
 add-i : tie.Need-add-i Inv-loop μ-loop
 add-i c = omega arith
 
--- src/deck_seeds.rt:46:5
 loop-less : tie.Need-loop-less Inv-loop μ-loop
 loop-less c = omega arith
 
--- src/deck_seeds.rt:46:5
 loop-again : tie.Need-loop-again Inv-loop μ-loop
 unfolding rowAt
 loop-again c = seeds-next _ _ _ _ _ (c .before .before .before .before .loop-test .taken) (c .before .before .before .before .before .loop .inv) _ (rw (toZ-ofZ (sfits-of (c .before .before .before .judge-seed-arg .given))) at (c .before .before .judge-seed .ensures)) (c .enum-told .given .1)
 
--- src/deck_seeds.rt:41:1
 returns-2 : tie.Need-returns-2 Inv-loop μ-loop
 returns-2 c = seeds-end _ _ _ _ _ (c .loop-test .left) (c .before .loop .inv)
 

@@ -59,9 +59,10 @@ sub-size-with c = omega (arith, (c .before .before .before .before .pre .rising)
 size-with-requires : tie.Need-size-with-requires Inv-loop μ-loop
 unfolding bound
 size-with-requires c κs = let e = (c .before .before .before .loop .inv .1) in
-    rw e
-    (omega (arith, present-few (c .before .before .before .before .args .t2) (pairsAt (c .before .before .before .before .args .t1)) (c .before .before .before .loop .i), (c .before .before .before .before .pre .seeds)),
-      omega (arith, present-pairs-few (c .before .before .before .before .args .t1) (c .before .before .before .before .args .seeds) (c .before .before .before .before .pre) (c .before .before .before .before .args .t2) (c .before .before .before .loop .i) (omega arith), (c .before .before .before .before .pre .rising) (c .before .before .before .loop .i) (c .before .before .loop-test .taken), (c .before .before .before .before .pre .within) ((c .before .before .before .loop .i) + 1) (omega arith), (c .before .before .before .before .pre .pairs)))
+    rw e (
+      omega (arith, present-few (c .before .before .before .before .args .t2) (pairsAt (c .before .before .before .before .args .t1)) (c .before .before .before .loop .i), (c .before .before .before .before .pre .seeds)),
+      omega (arith, present-pairs-few (c .before .before .before .before .args .t1) (c .before .before .before .before .args .seeds) (c .before .before .before .before .pre) (c .before .before .before .before .args .t2) (c .before .before .before .loop .i) (omega arith), (c .before .before .before .before .pre .rising) (c .before .before .before .loop .i) (c .before .before .loop-test .taken), (c .before .before .before .before .pre .within) ((c .before .before .before .loop .i) + 1) (omega arith), (c .before .before .before .before .pre .pairs)),
+    )
 
 add-i : tie.Need-add-i Inv-loop μ-loop
 unfolding bound
