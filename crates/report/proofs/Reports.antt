@@ -4,7 +4,8 @@ use mathlib.Core.Bool.{Bool, true, false, cond}
 use mathlib.Core.List.{List, _++_}
 use Prim.Native.Nat.{ℕ, _-_, _≤_}
 use native.Mathlib.Omega.{arith}
-use lib.ListN.{length, take, drop, replicate}
+use lib.ListN.{length, take, drop, replicate, length-append}
+use lib.Seq.{length-take-le}
 use lib.Dec.{ltb}
 use borrow.Author.Tests.{le-ltb, ltb-false}
 use Rattle.answer.specs.Answer.{said}
@@ -134,3 +135,16 @@ module _ (input scratch out : List ℕ) (a : Answer) (judged : a ≡ shortage (l
 pub reports-length : (input scratch left out after : List ℕ) (r : Reported) → Reports input scratch left out after r → Reports input scratch left out after (reportedBy (shortage (length scratch) (length out)) (linesOf input)) × (r .length ≡ reportedBy (shortage (length scratch) (length out)) (linesOf input) .length)
 reports-length input scratch left out after r w =
     (record { answers = refl; scratch-left = w .scratch-left; output-left = w .output-left }, ap (λ (x : Reported). x .length) (w .answers))
+
+-- The bytes written stand in the output.
+module _ (input scratch left out after : List ℕ) (r : Reported) (w : Reports input scratch left out after r) where
+  pub reported-within : r .length ≤ length after
+  reported-within = go (shortage (length scratch) (length out)) (w .answers) (w .output-left)
+    where
+      go : (x : Answer) → r ≡ reportedBy x (linesOf input) → after ≡ outputBy x (linesOf input) out → r .length ≤ length after
+      go Accepted e f =
+          omega (arith, ap (λ (y : Reported). y .length) e, ap length f, length-append (linesOf input) (drop (length (linesOf input)) out))
+      go (Refused g p) e f = omega (arith, ap (λ (y : Reported). y .length) e)
+
+  pub reported-taken : r .length ≡ length (take (r .length) after)
+  reported-taken = sym (length-take-le (r .length) after reported-within)

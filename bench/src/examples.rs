@@ -1,0 +1,125 @@
+//! The examples of document 01 that the printed lines can show, with what they print.
+
+use crate::reference::read_tree;
+
+const A: &[u8] = b"(.(.)).";
+const B: &[u8] = b"(.)(.)";
+
+type Seed<'a> = (i32, &'a [(u8, u8)]);
+
+/// Q, T and the seeds in plain form.
+fn input(q: &[u8], t: &[u8], seeds: &[Seed]) -> Vec<u8> {
+    let count: usize = seeds.iter().map(|seed| seed.1.len()).sum();
+    let mut bytes = [
+        q,
+        b"\n",
+        t,
+        b"\n",
+        &[seeds.len() as u8, 0],
+        &(count as u16).to_be_bytes(),
+    ]
+    .concat();
+    let mut first = 1u16;
+    for (score, pairs) in seeds {
+        bytes.extend(score.to_be_bytes());
+        bytes.extend(first.to_be_bytes());
+        first += pairs.len() as u16;
+    }
+    let mut number = 0u16;
+    for (_, pairs) in seeds {
+        for (at, pair) in pairs.iter().enumerate() {
+            number += 1;
+            let next = if at + 1 < pairs.len() { number + 1 } else { 0 };
+            bytes.extend([pair.0, pair.1]);
+            bytes.extend(next.to_be_bytes());
+        }
+    }
+    bytes
+}
+
+/// The example deck of 24 bytes behind A and B.
+pub fn two_seeds() -> Vec<u8> {
+    let deck = [
+        2, 0, 0, 2, 0, 0, 0, 3, 0, 1, 0, 0, 0, 2, 0, 2, 2, 1, 0, 0, 4, 3, 0, 0,
+    ];
+    [A, b"\n", B, b"\n", &deck].concat()
+}
+
+fn one(score: i32, pairs: &[(u8, u8)]) -> Vec<u8> {
+    input(A, B, &[(score, pairs)])
+}
+
+fn five(fourth: i32) -> Vec<u8> {
+    input(
+        A,
+        B,
+        &[
+            (3, &[(2, 1)]),
+            (2, &[(4, 3)]),
+            (1, &[(1, 0)]),
+            (fourth, &[(3, 1)]),
+            (-1, &[(0, 2)]),
+        ],
+    )
+}
+
+fn text(q: &[u8]) -> Vec<u8> {
+    input(q, b".", &[])
+}
+
+/// Inputs with their lines.
+pub fn all() -> Vec<(Vec<u8>, &'static str)> {
+    let nothing = "score 0\nchain\n";
+    vec![
+        (one(1, &[(2, 0), (5, 4)]), "refused 19 seed 1\n"),
+        (one(1, &[(0, 0), (1, 1)]), "refused 17 seed 1\n"),
+        (one(1, &[(0, 0), (4, 2)]), "refused 18 seed 1\n"),
+        (one(1, &[(1, 0), (3, 1)]), "score 1\nchain 1\n"),
+        (one(1, &[(3, 1), (5, 4)]), "score 1\nchain 1\n"),
+        (input(A, B, &[]), nothing),
+        (one(0, &[(0, 0)]), nothing),
+        (one(-1, &[(0, 0)]), nothing),
+        (five(3), "score 6\nchain 1 2 3\n"),
+        (five(4), "score 7\nchain 2 3 4\n"),
+        // Seed 2 withdrawn: the deck goes without it, so 3 and 4 are 2 and 3 here.
+        (
+            input(
+                A,
+                B,
+                &[
+                    (3, &[(2, 1)]),
+                    (1, &[(1, 0)]),
+                    (4, &[(3, 1)]),
+                    (-1, &[(0, 2)]),
+                ],
+            ),
+            "score 5\nchain 2 3\n",
+        ),
+        (two_seeds(), "score 5\nchain 1 2\n"),
+        (text(&[b'.'; 255]), nothing),
+        (text(&[b'.'; 256]), "refused 1 Q 0\n"),
+        (text(b")a"), "refused 2 Q 1\n"),
+        (text(b"("), "refused 4 Q 0\n"),
+        (one(1_000_000, &[(0, 0)]), "score 1000000\nchain 1\n"),
+        (one(1_000_001, &[(0, 0)]), "refused 11 seed 1\n"),
+        // How open questions are read.
+        (text(b"(()"), "refused 4 Q 0\n"),
+        (text(b"()("), "refused 4 Q 2\n"),
+        (text(b")("), "refused 3 Q 0\n"),
+        (b"".to_vec(), "refused 1 Q 0\n"),
+        (b"..".to_vec(), "refused 1 T 0\n"),
+        (b"..\n.".to_vec(), "refused 5\n"),
+        (b".\n.\n\0\0\0\0\n".to_vec(), "refused 5\n"),
+        (b".\n.\n\0\0\0\x01\0\0\0\0".to_vec(), "refused 8\n"),
+    ]
+}
+
+/// The leftmost leaves of A and B.
+pub fn leftmost_leaves_are_right() -> bool {
+    let leaves = |text| {
+        read_tree(text)
+            .map(|tree| tree.leftmost[..tree.count].to_vec())
+            .ok()
+    };
+    leaves(A) == Some(vec![0, 1, 1, 0, 4, 0]) && leaves(B) == Some(vec![0, 0, 2, 2, 0])
+}

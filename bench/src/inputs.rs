@@ -1,0 +1,841 @@
+//! Inputs from a fixed start: valid ones, and ones that are damaged in every way document 01 names.
+
+use crate::reference::{read_tree, Pair, Tree};
+
+/// Evenly spread numbers, the same ones for the same start.
+pub struct Random(u64);
+
+impl Random {
+    pub fn new(start: u64) -> Random {
+        Random(start)
+    }
+
+    fn next(&mut self) -> u64 {
+        self.0 = self.0.wrapping_add(0x9E37_79B9_7F4A_7C15);
+        let mut mixed = self.0;
+        mixed = (mixed ^ mixed >> 30).wrapping_mul(0xBF58_476D_1CE4_E5B9);
+        mixed = (mixed ^ mixed >> 27).wrapping_mul(0x94D0_49BB_1331_11EB);
+        mixed ^ mixed >> 31
+    }
+
+    fn below(&mut self, limit: usize) -> usize {
+        (self.next() % limit as u64) as usize
+    }
+
+    fn between(&mut self, low: i64, high: i64) -> i64 {
+        low + (self.next() % (high - low + 1) as u64) as i64
+    }
+
+    fn size(&mut self, low: usize, high: usize) -> usize {
+        low + self.below(high - low + 1)
+    }
+
+    fn chance(&mut self, percent: usize) -> bool {
+        self.below(100) < percent
+    }
+
+    fn byte(&mut self) -> u8 {
+        self.next() as u8
+    }
+
+    fn pick<T: Copy>(&mut self, items: &[T]) -> T {
+        items[self.below(items.len())]
+    }
+
+    fn shuffle<T>(&mut self, items: &mut [T]) {
+        for at in (1..items.len()).rev() {
+            items.swap(at, self.below(at + 1));
+        }
+    }
+}
+
+/// What an input is made from: two texts, and seeds as scores with pairs.
+#[derive(Clone)]
+struct Draft {
+    q: Vec<u8>,
+    t: Vec<u8>,
+    seeds: Vec<(i32, Vec<Pair>)>,
+}
+
+/// Any input: two in five are valid, the others are damaged once or twice.
+pub fn any_input(random: &mut Random) -> Vec<u8> {
+    let draft = valid_draft(random);
+    match random.below(100) {
+        0..=39 => lay_out(random, &draft),
+        40..=63 => with_bad_seeds(random, draft),
+        64..=79 => with_bad_deck(random, &draft, damage_records),
+        80..=84 => with_bad_deck(random, &draft, damage_layout),
+        85..=92 => with_bad_texts(random, draft),
+        93..=97 => {
+            let whole = lay_out(random, &draft);
+            damage_whole(random, whole)
+        }
+        _ => damage_everything(random, draft),
+    }
+}
+
+fn with_bad_seeds(random: &mut Random, mut draft: Draft) -> Vec<u8> {
+    // Small trees have no place for most kinds of this damage.
+    while draft.q.len().min(draft.t.len()) < 10 && random.chance(90) {
+        draft = valid_draft(random);
+    }
+    damage_seed(random, &mut draft);
+    if random.chance(25) {
+        damage_seed(random, &mut draft);
+    }
+    lay_out(random, &draft)
+}
+
+fn with_bad_deck(
+    random: &mut Random,
+    draft: &Draft,
+    damage: fn(&mut Random, &mut Vec<u8>),
+) -> Vec<u8> {
+    let mut deck = some_deck(random, draft);
+    damage(random, &mut deck);
+    // A second look at the counts needs them to be there.
+    if deck.len() >= 4 && random.chance(30) {
+        damage(random, &mut deck);
+    }
+    join(&draft.q, &draft.t, &deck)
+}
+
+fn with_bad_texts(random: &mut Random, mut draft: Draft) -> Vec<u8> {
+    damage_texts(random, &mut draft);
+    lay_out(random, &draft)
+}
+
+// ---- texts ----
+
+/// A structure of just this length; `open` and `close` are chances in a hundred.
+fn structure(random: &mut Random, length: usize, open: usize, close: usize) -> Vec<u8> {
+    let mut text = Vec::with_capacity(length);
+    let mut depth = 0;
+    while text.len() < length {
+        let rest = length - text.len();
+        if rest == depth || depth > 0 && random.chance(close) {
+            text.push(b')');
+            depth -= 1;
+        } else if rest >= depth + 2 && random.chance(open) {
+            text.push(b'(');
+            depth += 1;
+        } else {
+            text.push(b'.');
+        }
+    }
+    text
+}
+
+fn some_length(random: &mut Random) -> usize {
+    match random.below(10) {
+        0..=3 => random.size(1, 14),
+        4..=6 => random.size(10, 70),
+        7..=8 => random.size(60, 255),
+        _ => 255,
+    }
+}
+
+fn some_structure(random: &mut Random, length: usize) -> Vec<u8> {
+    // Flat, mixed, many empty pairs, deep, one nest, only dots.
+    let (open, close) = random.pick(&[
+        (10, 40),
+        (35, 25),
+        (50, 50),
+        (70, 8),
+        (97, 0),
+        (0, 0),
+        (40, 12),
+    ]);
+    structure(random, length, open, close)
+}
+
+/// A text that is nearly the given one.
+fn near_structure(random: &mut Random, text: &[u8]) -> Vec<u8> {
+    let mut near = text.to_vec();
+    for _ in 0..random.size(1, 4) {
+        let at = random.below(near.len() + 1);
+        if near.len() < 255 && random.chance(60) {
+            near.insert(at, b'.');
+        } else if at < near.len() && near.len() > 1 && near[at] == b'.' {
+            near.remove(at);
+        }
+    }
+    near
+}
+
+fn some_texts(random: &mut Random) -> (Vec<u8>, Vec<u8>) {
+    let length = some_length(random);
+    let q = some_structure(random, length);
+    let t = match random.below(10) {
+        0..=4 => q.clone(),
+        5..=6 => near_structure(random, &q),
+        _ => {
+            let length = some_length(random);
+            some_structure(random, length)
+        }
+    };
+    (q, t)
+}
+
+// ---- valid seeds ----
+
+fn children(tree: &Tree, node: u8) -> Vec<u8> {
+    (tree.left(node)..node)
+        .filter(|&kid| tree.parent[kid as usize] == node)
+        .collect()
+}
+
+/// Nodes below a node that may be paired next; those marked must be, because the node between stays
+/// unpaired and then has to have all its children in the span.
+fn fringe(random: &mut Random, tree: &Tree, node: u8) -> Vec<(u8, bool)> {
+    let mut list: Vec<(u8, bool)> = children(tree, node)
+        .iter()
+        .map(|&kid| (kid, false))
+        .collect();
+    while !list.is_empty() && random.chance(35) {
+        let at = random.below(list.len());
+        let inner = children(tree, list[at].0);
+        if !inner.is_empty() {
+            list.splice(at..=at, inner.iter().map(|&kid| (kid, true)));
+        }
+    }
+    list
+}
+
+/// Any `size` nodes of a fringe, all those that must be among them.
+fn choose(random: &mut Random, list: &[(u8, bool)], size: usize) -> Vec<u8> {
+    let mut free: Vec<u8> = list
+        .iter()
+        .filter(|item| !item.1)
+        .map(|item| item.0)
+        .collect();
+    random.shuffle(&mut free);
+    free.truncate(size - must(list));
+    list.iter()
+        .filter(|item| item.1 || free.contains(&item.0))
+        .map(|item| item.0)
+        .collect()
+}
+
+fn must(list: &[(u8, bool)]) -> usize {
+    list.iter().filter(|item| item.1).count()
+}
+
+/// Pairs to stand just below a pair, in order, at most `room` of them.
+fn next_pairs(
+    random: &mut Random,
+    q: &Tree,
+    t: &Tree,
+    upper: Pair,
+    alike: bool,
+    room: usize,
+) -> Vec<Pair> {
+    let in_q = fringe(random, q, upper.q);
+    let in_t = if alike {
+        in_q.clone()
+    } else {
+        fringe(random, t, upper.t)
+    };
+    let least = must(&in_q).max(must(&in_t));
+    let most = in_q.len().min(in_t.len()).min(room);
+    if least > most {
+        return Vec::new();
+    }
+    let size = if random.chance(40) {
+        most
+    } else {
+        random.size(least, most)
+    };
+    let qs = choose(random, &in_q, size);
+    let ts = if alike {
+        qs.clone()
+    } else {
+        choose(random, &in_t, size)
+    };
+    qs.iter().zip(&ts).map(|(&q, &t)| Pair { q, t }).collect()
+}
+
+/// A valid seed: from its last pair down, every border node is paired.
+fn grow_seed(
+    random: &mut Random,
+    q: &Tree,
+    t: &Tree,
+    last: Pair,
+    alike: bool,
+    room: usize,
+) -> Vec<Pair> {
+    let mut pairs = vec![last];
+    let mut next = 0;
+    let stop = random.pick(&[0, 20, 60]);
+    while next < pairs.len() {
+        let upper = pairs[next];
+        next += 1;
+        let rest = room - pairs.len();
+        if rest > 0 && !random.chance(stop) {
+            let alike = alike && upper.q == upper.t;
+            pairs.extend(next_pairs(random, q, t, upper, alike, rest));
+        }
+    }
+    pairs.sort_by_key(|pair| pair.q);
+    pairs
+}
+
+fn some_score(random: &mut Random, style: usize) -> i32 {
+    let score = match style {
+        0 => random.between(-1_000_000, 1_000_000),
+        1 => random.between(-1, 2),
+        2 => random.between(1, 3),
+        3 => random.between(-1_000_000, 0),
+        4 => random.pick(&[-1_000_000, -999_999, -1, 0, 1, 999_999, 1_000_000]),
+        5 => 0,
+        6 => 1_000_000,
+        _ => random.between(1, 1000),
+    };
+    score as i32
+}
+
+fn some_seed_count(random: &mut Random) -> usize {
+    match random.below(20) {
+        0 => 0,
+        1..=6 => random.size(1, 5),
+        7..=13 => random.size(5, 12),
+        14..=17 => random.size(12, 40),
+        18 => random.size(40, 64),
+        _ => 64,
+    }
+}
+
+/// A last pair; for like trees mostly the same node twice, so that many seeds chain.
+fn some_last(random: &mut Random, q: &Tree, t: &Tree, alike: bool) -> Pair {
+    let (mut low_q, mut low_t) = (random.below(q.count), random.below(t.count));
+    if alike && random.chance(85) {
+        low_t = low_q;
+    } else if random.chance(50) {
+        // About the same place in both trees, so that order is kept more often.
+        low_t = (low_q * t.count / q.count).min(t.count - 1);
+    }
+    if random.chance(2) {
+        (low_q, low_t) = (q.count - 1, t.count - 1);
+    }
+    Pair {
+        q: low_q as u8,
+        t: low_t as u8,
+    }
+}
+
+fn valid_draft(random: &mut Random) -> Draft {
+    let (q, t) = some_texts(random);
+    let seeds = some_seed_count(random);
+    let most = if random.chance(5) {
+        256
+    } else {
+        random.pick(&[1, 2, 3, 4, 6, 12, 30])
+    };
+    let style = random.pick(&[0, 0, 1, 1, 1, 2, 2, 3, 4, 4, 5, 6, 7, 7]);
+    draft_on(random, q, t, seeds, most, style)
+}
+
+/// Valid seeds of at most `most` pairs on two given texts, never beyond 1,024 pairs in all.
+fn draft_on(
+    random: &mut Random,
+    q: Vec<u8>,
+    t: Vec<u8>,
+    seeds: usize,
+    most: usize,
+    style: usize,
+) -> Draft {
+    let alike = q == t;
+    let (q_tree, t_tree) = (must_read(&q), must_read(&t));
+    let mut room = 1024;
+    let mut draft = Draft {
+        q,
+        t,
+        seeds: Vec::new(),
+    };
+    for made in 0..seeds {
+        // One pair stays set aside for each seed that is still to come.
+        let own = most.min(room - (seeds - made - 1));
+        let last = some_last(random, &q_tree, &t_tree, alike);
+        let pairs = grow_seed(random, &q_tree, &t_tree, last, alike, own);
+        room -= pairs.len();
+        draft.seeds.push((some_score(random, style), pairs));
+    }
+    if draft.seeds.len() < 64 && draft.seeds.len() > 1 && room > 256 && random.chance(10) {
+        let again = random.pick(&[0, draft.seeds.len() - 1]);
+        draft.seeds.push(draft.seeds[again].clone());
+    }
+    draft
+}
+
+fn must_read(text: &[u8]) -> Tree {
+    read_tree(text).unwrap_or_else(|_| panic!("the text made here is a structure"))
+}
+
+// ---- decks ----
+
+fn join(q: &[u8], t: &[u8], deck: &[u8]) -> Vec<u8> {
+    [q, b"\n", t, b"\n", deck].concat()
+}
+
+/// The deck's bytes; the records lie in the given order of places, one after another if plain.
+fn encode(seeds: &[(i32, Vec<Pair>)], places: &[usize]) -> Vec<u8> {
+    let mut deck = vec![seeds.len() as u8, 0];
+    deck.extend((places.len() as u16).to_be_bytes());
+    let mut records = vec![0; 4 * places.len()];
+    let mut used = 0;
+    for (score, pairs) in seeds {
+        let own = &places[used..used + pairs.len()];
+        used += pairs.len();
+        deck.extend(score.to_be_bytes());
+        deck.extend((own.first().map_or(0, |place| place + 1) as u16).to_be_bytes());
+        for (at, pair) in pairs.iter().enumerate() {
+            let next = own.get(at + 1).map_or(0, |place| place + 1) as u16;
+            let record = [pair.q, pair.t, (next >> 8) as u8, next as u8];
+            records[4 * own[at]..4 * own[at] + 4].copy_from_slice(&record);
+        }
+    }
+    deck.extend(records);
+    deck
+}
+
+fn plain_deck(seeds: &[(i32, Vec<Pair>)]) -> Vec<u8> {
+    let count = seeds.iter().map(|seed| seed.1.len()).sum();
+    encode(seeds, &(0..count).collect::<Vec<_>>())
+}
+
+/// The deck in plain form, or with its records strewn.
+fn some_deck(random: &mut Random, draft: &Draft) -> Vec<u8> {
+    let count = draft.seeds.iter().map(|seed| seed.1.len()).sum();
+    let mut places: Vec<usize> = (0..count).collect();
+    match random.below(4) {
+        0 => random.shuffle(&mut places),
+        1 => places.reverse(),
+        _ => (),
+    }
+    encode(&draft.seeds, &places)
+}
+
+fn lay_out(random: &mut Random, draft: &Draft) -> Vec<u8> {
+    join(&draft.q, &draft.t, &some_deck(random, draft))
+}
+
+// ---- damage to one seed: grounds 11 to 19 ----
+
+fn damage_seed(random: &mut Random, draft: &mut Draft) {
+    let (q, t) = (must_read(&draft.q), must_read(&draft.t));
+    if draft.seeds.is_empty() {
+        draft.seeds.push((1, vec![Pair { q: 0, t: 0 }]));
+    }
+    let chosen = random.below(draft.seeds.len());
+    let total: usize = draft.seeds.iter().map(|seed| seed.1.len()).sum();
+    let (score, pairs) = &mut draft.seeds[chosen];
+    // A larger seed has more to break, but 1,024 pairs must leave room for it.
+    if pairs.len() < 3 && total <= 1000 {
+        let last = Pair {
+            q: inner_node(random, &q),
+            t: inner_node(random, &t),
+        };
+        *pairs = grow_seed(random, &q, &t, last, false, 20);
+    }
+    let at = random.below(pairs.len());
+    match random.below(18) {
+        0 => *score = bad_score(random),
+        1 => pairs[at].q = outside(random, &q),
+        2 => pairs[at].t = outside(random, &t),
+        3 => pairs.reverse(),
+        4 => level_neighbours(random, pairs),
+        5 => swap_some_t(random, pairs),
+        6 => nudge(random, pairs, &q, &t),
+        7 if pairs.len() > 2 => drop(pairs.pop()),
+        8..=10 if pairs.len() > 2 => thin_out(random, pairs),
+        11 | 12 if total <= 1000 => *pairs = bare_path(random, &q, &t),
+        13 | 14 if total <= 1000 => *pairs = rising_lists(random, &q, &t),
+        15 if total <= 1000 => *pairs = leaves(random, &q, &t),
+        _ => other_ts(random, pairs, &t),
+    }
+}
+
+/// Leaves out pairs before the last, so that a border may stay unpaired.
+fn thin_out(random: &mut Random, pairs: &mut Vec<Pair>) {
+    let last = pairs[pairs.len() - 1];
+    let keep = random.pick(&[30, 60, 90]);
+    pairs.retain(|pair| *pair == last || random.chance(keep));
+}
+
+/// Other numbers below the last t, still rising, so that ancestry may differ.
+fn other_ts(random: &mut Random, pairs: &mut [Pair], t: &Tree) {
+    let last = pairs[pairs.len() - 1].t;
+    let left = t.left(last);
+    let ts = rising(random, (last - left) as usize, pairs.len() - 1);
+    ts.iter()
+        .zip(pairs)
+        .for_each(|(&down, pair)| pair.t = left + down);
+}
+
+fn bad_score(random: &mut Random) -> i32 {
+    let any = random.next() as i32;
+    let far = if any.unsigned_abs() > 1_000_000 {
+        any
+    } else {
+        1_000_001
+    };
+    random.pick(&[1_000_001, -1_000_001, i32::MIN, i32::MAX, far])
+}
+
+/// A number that is no node, if there is one below 256.
+fn outside(random: &mut Random, tree: &Tree) -> u8 {
+    if random.chance(40) {
+        tree.count.min(255) as u8
+    } else {
+        random.size(tree.count.min(255), 255) as u8
+    }
+}
+
+fn level_neighbours(random: &mut Random, pairs: &mut Vec<Pair>) {
+    let at = random.below(pairs.len());
+    if at + 1 == pairs.len() {
+        pairs.insert(at, pairs[at]);
+    } else if random.chance(50) {
+        pairs[at].q = pairs[at + 1].q;
+    } else {
+        pairs[at].t = pairs[at + 1].t;
+    }
+}
+
+fn swap_some_t(random: &mut Random, pairs: &mut [Pair]) {
+    let (a, b) = (random.below(pairs.len()), random.below(pairs.len()));
+    let held = pairs[a].t;
+    pairs[a].t = pairs[b].t;
+    pairs[b].t = held;
+}
+
+/// Moves one number by a little or to anywhere between its neighbours.
+fn nudge(random: &mut Random, pairs: &mut [Pair], q: &Tree, t: &Tree) {
+    let at = random.below(pairs.len());
+    let step = random.pick(&[-2, -1, 1, 2]);
+    let moved = |old: u8, count: usize| (old as i64 + step).clamp(0, count as i64 - 1) as u8;
+    if random.chance(50) {
+        pairs[at].q = moved(pairs[at].q, q.count);
+    } else {
+        pairs[at].t = moved(pairs[at].t, t.count);
+    }
+}
+
+/// A last pair with pairs far below it and mostly nothing paired on the way.
+fn bare_path(random: &mut Random, q: &Tree, t: &Tree) -> Vec<Pair> {
+    let (top_q, top_t) = (inner_node(random, q), inner_node(random, t));
+    let mut pairs = vec![Pair { q: top_q, t: top_t }];
+    let (low_q, low_t) = (q.left(top_q), t.left(top_t));
+    if low_q < top_q && low_t < top_t {
+        let low = Pair {
+            q: random.size(low_q.into(), top_q as usize - 1) as u8,
+            t: low_t,
+        };
+        pairs.insert(0, low);
+    }
+    pairs
+}
+
+/// The one with the largest subtree out of a few, often the added root.
+fn inner_node(random: &mut Random, tree: &Tree) -> u8 {
+    let some = (0..4).map(|_| random.below(tree.count) as u8);
+    some.max_by_key(|&node| node - tree.left(node)).unwrap_or(0)
+}
+
+fn rising(random: &mut Random, count: usize, size: usize) -> Vec<u8> {
+    let mut all: Vec<u8> = (0..count).map(|node| node as u8).collect();
+    random.shuffle(&mut all);
+    all.truncate(size);
+    all.sort_unstable();
+    all
+}
+
+fn rising_lists(random: &mut Random, q: &Tree, t: &Tree) -> Vec<Pair> {
+    let size = random.size(2, 5).min(q.count).min(t.count);
+    let (qs, ts) = (rising(random, q.count, size), rising(random, t.count, size));
+    qs.iter().zip(&ts).map(|(&q, &t)| Pair { q, t }).collect()
+}
+
+fn leaves(random: &mut Random, q: &Tree, t: &Tree) -> Vec<Pair> {
+    let list = |tree: &Tree| -> Vec<u8> {
+        (0..tree.count)
+            .map(|node| node as u8)
+            .filter(|&node| tree.left(node) == node)
+            .collect()
+    };
+    let size = random.size(1, 4);
+    let (qs, ts) = (list(q), list(t));
+    qs.iter()
+        .zip(&ts)
+        .take(size)
+        .map(|(&q, &t)| Pair { q, t })
+        .collect()
+}
+
+// ---- damage to the records: grounds 6 to 8 ----
+
+fn set_two(deck: &mut [u8], at: usize, number: usize) {
+    deck[at..at + 2].copy_from_slice(&(number as u16).to_be_bytes());
+}
+
+fn damage_records(random: &mut Random, deck: &mut Vec<u8>) {
+    let (seeds, pairs) = (deck[0] as usize, deck[2] as usize * 256 + deck[3] as usize);
+    if seeds == 0 || pairs == 0 {
+        return add_record(deck, pairs);
+    }
+    let first = 4 + 6 * random.below(seeds) + 4;
+    let next = 4 + 6 * seeds + 4 * random.below(pairs) + 2;
+    let record = 1 + random.below(pairs);
+    let beyond = random
+        .pick(&[pairs + 1, pairs + 2, 1025, 0x8000, 0xFFFF])
+        .max(pairs + 1);
+    match random.below(9) {
+        0 => set_two(deck, first, 0),
+        1 => set_two(deck, first, beyond),
+        2 => set_two(deck, next, beyond),
+        3 => set_two(deck, first, record),
+        4 => set_two(deck, next, record),
+        // A record that follows itself.
+        5 => set_two(deck, next, (next - 6 - 6 * seeds) / 4 + 1),
+        6 => set_two(deck, next, 0),
+        7 => add_record(deck, pairs),
+        _ => add_seed(deck, seeds, record),
+    }
+}
+
+/// One more record that nothing leads to.
+fn add_record(deck: &mut Vec<u8>, pairs: usize) {
+    if pairs < 1024 {
+        set_two(deck, 2, pairs + 1);
+        deck.extend([0; 4]);
+    }
+}
+
+/// One more seed on a record that another one has.
+fn add_seed(deck: &mut Vec<u8>, seeds: usize, record: usize) {
+    if seeds < 64 {
+        deck[0] += 1;
+        let at = 4 + 6 * seeds;
+        deck.splice(at..at, [0, 0, 0, 1, (record >> 8) as u8, record as u8]);
+    }
+}
+
+// ---- damage to the layout: ground 5 ----
+
+fn damage_layout(random: &mut Random, deck: &mut Vec<u8>) {
+    match random.below(9) {
+        0 => deck[0] = deck[0].wrapping_add(random.pick(&[1, 255])),
+        1 => deck[1] = random.pick(&[1, 0x80, 0xFF]),
+        2 => deck[3] = deck[3].wrapping_add(random.pick(&[1, 255])),
+        3 => deck.truncate(random.below(deck.len())),
+        4 => deck.truncate(random.below(5)),
+        5 => deck.push(random.pick(&[0, b'\n', 0xFF])),
+        6 => (0..random.size(1, 40)).for_each(|_| deck.push(random.byte())),
+        7 => *deck = full_deck(65, 65 + random.below(900)),
+        _ => *deck = full_deck(random.size(1, 64), 1025),
+    }
+}
+
+/// A deck of one-pair seeds, the last one with all records left; its length fits its counts.
+fn full_deck(seeds: usize, pairs: usize) -> Vec<u8> {
+    let mut list = vec![(1, vec![Pair { q: 0, t: 0 }]); seeds];
+    list[seeds - 1].1 = vec![Pair { q: 0, t: 0 }; pairs + 1 - seeds];
+    plain_deck(&list)
+}
+
+// ---- damage to the texts: grounds 1 to 4 ----
+
+fn damage_texts(random: &mut Random, draft: &mut Draft) {
+    if random.chance(60) {
+        damage_text(random, &mut draft.q);
+    }
+    if random.chance(60) {
+        damage_text(random, &mut draft.t);
+    }
+}
+
+fn damage_text(random: &mut Random, text: &mut Vec<u8>) {
+    let at = random.below(text.len());
+    match random.below(9) {
+        0 => text.clear(),
+        1 => text.resize(random.size(256, 300), b'.'),
+        2 => text[at] = random.pick(&[b'a', b' ', b'[', 0, 0xFF, b'\r', b'*', b'/']),
+        3 => text[at] = random.byte(),
+        4 => text[at] = b')',
+        5 => text[at] = b'(',
+        6 => text.insert(at, b')'),
+        7 => text.insert(at, b'('),
+        _ => {
+            let length = random.size(1, 12);
+            *text = (0..length).map(|_| random.pick(b"..(()))a")).collect();
+        }
+    }
+}
+
+// ---- damage to the whole input ----
+
+fn damage_whole(random: &mut Random, mut whole: Vec<u8>) -> Vec<u8> {
+    match random.below(8) {
+        0 | 1 => {
+            let feeds: Vec<usize> = (0..whole.len()).filter(|&at| whole[at] == b'\n').collect();
+            whole.remove(random.pick(&feeds[..2]));
+        }
+        2 => whole.truncate(random.below(whole.len())),
+        3 => whole.insert(random.below(whole.len() + 1), b'\n'),
+        4 => beyond_the_limit(random, &mut whole),
+        _ => {
+            let at = random.below(whole.len());
+            whole[at] = random.byte();
+        }
+    }
+    whole
+}
+
+/// More than 8,192 bytes, with and without line feeds.
+fn beyond_the_limit(random: &mut Random, whole: &mut Vec<u8>) {
+    let length = random.pick(&[8191, 8192, 8193, 9000, 20_000]);
+    match random.below(4) {
+        0 => whole.resize(length, 0),
+        1 => *whole = vec![b'.'; length],
+        2 => {
+            *whole = b".\n".to_vec();
+            whole.resize(length, b'.');
+        }
+        _ => {
+            whole.resize(length, b'.');
+            whole.push(b'\n');
+            whole.extend(b".\n\0\0\0\0");
+        }
+    }
+}
+
+/// Texts, a seed, records and bytes at once, or bytes that were never an input.
+fn damage_everything(random: &mut Random, mut draft: Draft) -> Vec<u8> {
+    if random.chance(25) {
+        let length = random.below(60);
+        return (0..length)
+            .map(|_| random.pick(b".().()\n\n\0\x01"))
+            .collect();
+    }
+    damage_seed(random, &mut draft);
+    let mut deck = some_deck(random, &draft);
+    if random.chance(60) {
+        damage_records(random, &mut deck);
+    }
+    if random.chance(30) {
+        damage_layout(random, &mut deck);
+    }
+    if random.chance(30) {
+        damage_texts(random, &mut draft);
+    }
+    join(&draft.q, &draft.t, &deck)
+}
+
+// ---- inputs that do not hang on chance ----
+
+/// The inputs at the limits, then every change of one byte and every cut of a small one.
+pub fn fixed_inputs() -> Vec<Vec<u8>> {
+    let mut inputs = vec![
+        Vec::new(),
+        b"\n".to_vec(),
+        b"\n\n".to_vec(),
+        b".\n.\n".to_vec(),
+    ];
+    let dots = |count| vec![b'.'; count];
+    for count in [1, 254, 255, 256, 257, 8192] {
+        inputs.push(join(&dots(count), b".", &[0; 4]));
+        inputs.push(join(b".", &dots(count), &[0; 4]));
+    }
+    for (seeds, pairs) in [
+        (64, 64),
+        (65, 65),
+        (64, 1024),
+        (64, 1025),
+        (1, 1024),
+        (1, 1025),
+    ] {
+        inputs.push(join(b"..", b"..", &full_deck(seeds, pairs)));
+    }
+    inputs.push(most_pairs());
+    inputs.extend(changes_of(&crate::examples::two_seeds()));
+    inputs.extend(short_texts(6));
+    inputs
+}
+
+/// Four seeds that take all 256 nodes each: 1,024 pairs.
+fn most_pairs() -> Vec<u8> {
+    let all: Vec<Pair> = (0..=255).map(|node| Pair { q: node, t: node }).collect();
+    join(&[b'.'; 255], &[b'.'; 255], &plain_deck(&vec![(5, all); 4]))
+}
+
+fn changes_of(input: &[u8]) -> Vec<Vec<u8>> {
+    let mut changes: Vec<Vec<u8>> = (0..input.len()).map(|end| input[..end].to_vec()).collect();
+    for at in 0..input.len() {
+        for byte in 0..=255 {
+            let mut changed = input.to_vec();
+            changed[at] = byte;
+            changes.push(changed);
+        }
+    }
+    changes
+}
+
+/// Every text over the three bytes and a wrong one, as Q and as T, up to a length.
+fn short_texts(longest: usize) -> Vec<Vec<u8>> {
+    let mut inputs = Vec::new();
+    let mut texts = vec![Vec::new()];
+    for _ in 0..longest {
+        texts = texts
+            .iter()
+            .flat_map(|text| b".()a".map(|byte| [&text[..], &[byte]].concat()))
+            .collect();
+        for text in &texts {
+            inputs.push(join(text, b".", &[0; 4]));
+            inputs.push(join(b"()", text, &[0; 4]));
+        }
+    }
+    inputs
+}
+
+// ---- inputs for the timing ----
+
+pub const SHAPES: [&str; 4] = ["flat", "nested", "comb", "mixed"];
+
+/// A valid input with this many seeds, most of them chainable with one another.
+pub fn timing_input(random: &mut Random, shape: &str, seeds: usize) -> Vec<u8> {
+    let text = match shape {
+        "flat" => b"(.)".repeat(85),
+        "nested" => [b"(".repeat(127), b".".to_vec(), b")".repeat(127)].concat(),
+        "comb" => [b"(.".repeat(85), b")".repeat(85)].concat(),
+        _ => structure(random, 255, 35, 25),
+    };
+    let mut draft = if shape == "mixed" {
+        draft_on(random, text.clone(), text, seeds, 4, 7)
+    } else {
+        row_of_seeds(random, text, seeds, shape != "comb")
+    };
+    draft.seeds.truncate(seeds);
+    join(&draft.q, &draft.t, &plain_deck(&draft.seeds))
+}
+
+/// Seeds of one node, or of two neighbouring nodes, spread over like trees without a common node.
+fn row_of_seeds(random: &mut Random, text: Vec<u8>, seeds: usize, two: bool) -> Draft {
+    let places = (must_read(&text).count - 1) / if two { 2 } else { 1 };
+    let mut chosen = rising(random, places, seeds);
+    random.shuffle(&mut chosen);
+    let list = chosen.iter().map(|&place| {
+        let nodes = if two {
+            2 * place..=2 * place + 1
+        } else {
+            place..=place
+        };
+        let pairs = nodes.map(|node| Pair { q: node, t: node }).collect();
+        (some_score(random, 7), pairs)
+    });
+    let list = list.collect();
+    Draft {
+        q: text.clone(),
+        t: text,
+        seeds: list,
+    }
+}

@@ -1,0 +1,199 @@
+//! Compares the proved library with an independent implementation, and times both.
+
+mod examples;
+mod inputs;
+mod library;
+mod quick;
+mod reference;
+mod timing;
+
+use inputs::Random;
+use library::Library;
+use std::collections::BTreeMap;
+use std::process::exit;
+
+/// The grounds that the printed lines can name.
+const GROUNDS: [u8; 14] = [1, 2, 3, 4, 5, 6, 7, 8, 11, 15, 16, 17, 18, 19];
+/// Trying every set of seeds stays cheap up to here.
+const TRIED: usize = 14;
+
+struct Checker {
+    library: Option<Library>,
+    outcomes: BTreeMap<String, usize>,
+    tried: usize,
+    tied: usize,
+    longest: u32,
+}
+
+impl Checker {
+    fn new() -> Checker {
+        let outcomes = BTreeMap::new();
+        Checker {
+            library: Library::open(),
+            outcomes,
+            tried: 0,
+            tied: 0,
+            longest: 0,
+        }
+    }
+
+    /// Holds every answer for one input against the reference's and counts the outcome.
+    fn check(&mut self, input: &[u8]) {
+        let lines = reference::report(input);
+        let found = quick::report(input);
+        if found != lines {
+            differ("the quick reference", input, &lines, &found);
+        }
+        if let Some(library) = &mut self.library {
+            match library.report_watched(input) {
+                Ok(found) if found == lines => (),
+                Ok(found) => differ("the library", input, &lines, found),
+                Err(fault) => fail(&format!("the library: {fault}"), input),
+            }
+        }
+        self.try_all(input);
+        *self.outcomes.entry(outcome(&lines)).or_insert(0) += 1;
+    }
+
+    /// The self-check of the best chain: every set of seeds, where they are few.
+    fn try_all(&mut self, input: &[u8]) {
+        let Ok(session) = reference::open(input, reference::check_seed) else {
+            return;
+        };
+        let best = reference::best_chain(&session, reference::chainable);
+        self.longest = self.longest.max(best.mask.count_ones());
+        if session.seeds.len() > TRIED {
+            return;
+        }
+        let (tried, ties) = reference::best_by_trying(&session);
+        if tried != best {
+            let (lines, found) = (reference::print_chain(tried), reference::print_chain(best));
+            differ("the reference against every set", input, &lines, &found);
+        }
+        self.tried += 1;
+        self.tied += (ties > 1) as usize;
+    }
+
+    fn print_counts(&self) {
+        for (outcome, count) in &self.outcomes {
+            println!("  {outcome:<22}{count:>8}");
+        }
+        println!(
+            "  {} of them also by trying every set, {} with a tie",
+            self.tried, self.tied
+        );
+        println!("  the longest chain has {} seeds", self.longest);
+    }
+
+    /// Too few of a ground would leave it unchecked.
+    fn fail_if_rare(&self, least: usize) {
+        for ground in GROUNDS {
+            let start = format!("refused {ground:>2}");
+            let hits = self
+                .outcomes
+                .iter()
+                .filter(|(outcome, _)| outcome.starts_with(&start));
+            let count: usize = hits.map(|(_, count)| count).sum();
+            if count < least {
+                println!("ground {ground} came up {count} times only");
+                exit(1);
+            }
+        }
+    }
+}
+
+/// What an answer is counted as: its ground and kind of place, or the kind of chain.
+fn outcome(lines: &[u8]) -> String {
+    let text = String::from_utf8_lossy(lines);
+    let words: Vec<&str> = text.split_whitespace().collect();
+    match words[0] {
+        "refused" => format!("refused {:>2} {}", words[1], words.get(2).unwrap_or(&"")),
+        _ if words.len() == 3 => "accepted, no chain".to_string(),
+        _ => "accepted, a chain".to_string(),
+    }
+}
+
+fn hex(bytes: &[u8]) -> String {
+    bytes.iter().map(|byte| format!("{byte:02x}")).collect()
+}
+
+fn fail(what: &str, input: &[u8]) -> ! {
+    println!("{what}\ninput, hex: {}", hex(input));
+    exit(1)
+}
+
+fn differ(who: &str, input: &[u8], expected: &[u8], found: &[u8]) -> ! {
+    println!("expected:\n{}", String::from_utf8_lossy(expected));
+    println!("found:\n{}", String::from_utf8_lossy(found));
+    fail(&format!("a difference: {who}"), input)
+}
+
+fn check_examples(checker: &mut Checker) {
+    let examples = examples::all();
+    for (input, lines) in &examples {
+        let found = reference::report(input);
+        if found != lines.as_bytes() {
+            differ(
+                "the reference on an example",
+                input,
+                lines.as_bytes(),
+                &found,
+            );
+        }
+        checker.check(input);
+    }
+    if !examples::leftmost_leaves_are_right() {
+        fail("the leftmost leaves of the example trees", b"");
+    }
+    println!("examples: {} right", examples.len());
+}
+
+fn check_fixed(checker: &mut Checker) {
+    let inputs = inputs::fixed_inputs();
+    inputs.iter().for_each(|input| checker.check(input));
+    println!(
+        "limits, changes of one byte, short texts: {} alike",
+        inputs.len()
+    );
+}
+
+fn check_random(count: usize, start: u64) {
+    let mut checker = Checker::new();
+    let mut random = Random::new(start);
+    for _ in 0..count {
+        checker.check(&inputs::any_input(&mut random));
+    }
+    println!("random inputs from {start}: {count} alike");
+    checker.print_counts();
+    if count >= 2000 {
+        checker.fail_if_rare(count / 200);
+    }
+}
+
+fn number(argument: Option<String>, default: u64) -> u64 {
+    match argument.map(|text| text.parse()) {
+        None => default,
+        Some(Ok(number)) => number,
+        Some(Err(_)) => {
+            eprintln!(
+                "usage: gurandyo-bench [how many random inputs] [where the random numbers start]"
+            );
+            exit(2)
+        }
+    }
+}
+
+fn main() {
+    let mut arguments = std::env::args().skip(1);
+    let count = number(arguments.next(), 20_000) as usize;
+    let start = number(arguments.next(), 1);
+    let mut checker = Checker::new();
+    match checker.library {
+        Some(_) => println!("comparing the library with the reference"),
+        None => println!("the library is missing: the reference checks only itself"),
+    }
+    check_examples(&mut checker);
+    check_fixed(&mut checker);
+    check_random(count, start);
+    timing::print_all(&mut checker.library);
+}

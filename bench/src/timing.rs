@@ -1,0 +1,132 @@
+//! Times the library and the reference on the same inputs.
+
+use crate::inputs::{timing_input, Random, SHAPES};
+use crate::library::Library;
+use crate::{quick, reference};
+use std::hint::black_box;
+use std::time::Instant;
+
+const SIZES: [usize; 4] = [8, 16, 32, 64];
+const INPUTS: usize = 16;
+const ROUNDS: usize = 101;
+/// One stint takes about this long, so that the clock's own cost does not show.
+const STINT_NS: f64 = 500_000.0;
+
+/// One who answers an input.
+type Contestant<'a> = &'a mut dyn FnMut(&[u8]);
+
+/// Nanoseconds for one input, on average over the inputs, `turns` times each.
+fn stint(inputs: &[Vec<u8>], turns: usize, report: Contestant) -> f64 {
+    let begin = Instant::now();
+    for _ in 0..turns {
+        inputs.iter().for_each(|input| report(black_box(input)));
+    }
+    begin.elapsed().as_nanos() as f64 / (turns * inputs.len()) as f64
+}
+
+/// Warms up and answers how many turns fill a stint.
+fn turns_for(inputs: &[Vec<u8>], report: Contestant) -> usize {
+    stint(inputs, 10, report);
+    let once = stint(inputs, 10, report) * inputs.len() as f64;
+    ((STINT_NS / once) as usize).max(1)
+}
+
+fn median(mut times: Vec<f64>) -> f64 {
+    times.sort_by(f64::total_cmp);
+    times[times.len() / 2]
+}
+
+/// The median for each contestant and size; a round has a stint of each contestant at each size,
+/// so that a disturbance meets all of them.
+fn contest(sizes: &[Vec<Vec<u8>>], contestants: &mut [Contestant]) -> Vec<Vec<f64>> {
+    let turns: Vec<Vec<usize>> = contestants
+        .iter_mut()
+        .map(|report| {
+            sizes
+                .iter()
+                .map(|inputs| turns_for(inputs, report))
+                .collect()
+        })
+        .collect();
+    let mut times = vec![vec![Vec::new(); sizes.len()]; contestants.len()];
+    for _ in 0..ROUNDS {
+        for (size, inputs) in sizes.iter().enumerate() {
+            for (who, report) in contestants.iter_mut().enumerate() {
+                times[who][size].push(stint(inputs, turns[who][size], report));
+            }
+        }
+    }
+    times
+        .into_iter()
+        .map(|own| own.into_iter().map(median).collect())
+        .collect()
+}
+
+/// Times by size: of the reference, of it by the definitions, and of the library if it is there.
+fn times_of(shape: &str, library: &mut Option<Library>) -> Vec<Vec<f64>> {
+    let mut random = Random::new(1);
+    let sizes: Vec<Vec<Vec<u8>>> = SIZES
+        .iter()
+        .map(|&seeds| {
+            (0..INPUTS)
+                .map(|_| timing_input(&mut random, shape, seeds))
+                .collect()
+        })
+        .collect();
+    let mut fast = |input: &[u8]| drop(black_box(quick::report(input)));
+    let mut plain = |input: &[u8]| drop(black_box(reference::report(input)));
+    match library {
+        None => contest(&sizes, &mut [&mut fast, &mut plain]),
+        Some(library) => {
+            let mut proved = |input: &[u8]| {
+                black_box(library.report(input));
+            };
+            contest(&sizes, &mut [&mut fast, &mut plain, &mut proved])
+        }
+    }
+}
+
+fn growth(times: &[f64], size: usize) -> String {
+    match size {
+        0 => "-".to_string(),
+        _ => format!("{:.2}", times[size] / times[size - 1]),
+    }
+}
+
+/// The library's time, its growth and the ratio, or dashes without the library.
+fn library_columns(times: &[Vec<f64>], size: usize) -> [String; 3] {
+    match times.get(2) {
+        None => ["-"; 3].map(str::to_string),
+        Some(own) => {
+            let ratio = own[size] / times[0][size];
+            [
+                format!("{:.0}", own[size]),
+                growth(own, size),
+                format!("{ratio:.2}"),
+            ]
+        }
+    }
+}
+
+fn print_shape(shape: &str, library: &mut Option<Library>) {
+    println!("\n{shape}: nanoseconds for one input, growth from one size to the next");
+    println!(
+        "{:>6}{:>12}{:>8}{:>12}{:>8}{:>20}{:>16}",
+        "seeds", "library", "growth", "reference", "growth", "library/reference", "by definition"
+    );
+    let times = times_of(shape, library);
+    for (size, seeds) in SIZES.iter().enumerate() {
+        let [proved, rise, ratio] = library_columns(&times, size);
+        let (reference, own_rise) = (times[0][size], growth(&times[0], size));
+        let plain = times[1][size];
+        println!(
+            "{seeds:>6}{proved:>12}{rise:>8}{reference:>12.0}{own_rise:>8}{ratio:>20}{plain:>16.0}"
+        );
+    }
+}
+
+pub fn print_all(library: &mut Option<Library>) {
+    for shape in SHAPES {
+        print_shape(shape, library);
+    }
+}
