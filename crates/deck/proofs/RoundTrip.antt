@@ -2,15 +2,17 @@
 -- Assumes nothing.
 use mathlib.Core.Path.{_≡_, refl, sym, ap, ap₂, subst, _∙_}
 use mathlib.Core.Bool.{Bool, true, false}
-use mathlib.Core.List.{List, [], _∷_, flatten}
-use Prim.Native.Nat.{ℕ, zero, suc, _+_, _*_, _<_}
+use mathlib.Core.List.{List, [], _∷_, _++_, flatten}
+use Prim.Native.Nat.{ℕ, zero, suc, _+_, _*_, _≤_, _<_}
 use native.Mathlib.Omega.{arith}
-use lib.ListN.{length, getD, length-map}
+use lib.ListN.{length, getD, take, drop, length-map}
+use lib.Seq.{take-at}
 use lib.Signed.{mag}
+use borrow.Author.Tests.{le-leb}
 use Rattle.seed.specs.Tab.{tab}
 use Rattle.deck.specs.Deck.{number32, SeedRecord, PairRecord, seedRecord, seedCount, seedRecords, pairRecords, recordOf, allIn, walks, DeckRow, settled, reading, rowsBy, deckOf, plainPairs, plainSeeds, chainsOf, plainOf, All, RowInLimits, InLimits}
 use Rattle.deck.specs.Deck.Reading.{accepted}
-use Rattle.deck.specs.Handed.{rowAt, rowsIn, Reads, presentOf, Writes}
+use Rattle.deck.specs.Handed.{rowAt, rowsIn, Reads, presentOf, writtenOf, outputOf, Writes}
 use Rattle.deck.specs.Grounds.{Ended}
 use Rattle.deck.specs.declared.DeckRead.{DeckRead}
 use Rattle.deck.specs.declared.Written.{Written}
@@ -85,3 +87,15 @@ present-all present f (suc n) h = rw (h n (omega arith), present-all present f n
 pub read-written : (d : List ℕ) (rows : List DeckRow) (r : DeckRead) (present : List Bool) (before after : List ℕ) (w : Written) → reading d ≡ accepted rows → Reads d r → ((i : ℕ) → i < r .seeds → getD present i false ≡ true) → Writes (presentOf present (rowAt (r .store) (r .scores)) (r .seeds)) before after w → Writes rows before after w
 read-written d rows r present before after w e s p x =
     subst (λ (l : List DeckRow). Writes l before after w) (present-all present (rowAt (r .store) (r .scores)) (r .seeds) p ∙ s .rows ∙ ap rowsIn e) x
+
+-- Read, written into an output that has room, and read again: the same seeds.
+written-front : (rows : List DeckRow) (before after : List ℕ) (w : Written) → length (plainOf rows) ≤ length before → Writes rows before after w → take (w .length) after ≡ plainOf rows
+unfolding writtenOf outputOf
+written-front rows before after w h x =
+    let yes = le-leb (length (plainOf rows)) (length before) h in
+    let n : w .length ≡ length (plainOf rows) = rw yes at (ap (λ (v : Written). v .length) (x .answers)) in
+    let a : after ≡ plainOf rows ++ drop (length (plainOf rows)) before = rw yes at (x .leaves) in
+    ap₂ take n a ∙ take-at (plainOf rows) (drop (length (plainOf rows)) before) (length (plainOf rows)) refl
+
+pub read-write-read : (d : List ℕ) (rows : List DeckRow) (r : DeckRead) (present : List Bool) (before after : List ℕ) (w : Written) → Bytes d → reading d ≡ accepted rows → Reads d r → ((i : ℕ) → i < r .seeds → getD present i false ≡ true) → length (plainOf rows) ≤ length before → Writes (presentOf present (rowAt (r .store) (r .scores)) (r .seeds)) before after w → reading (take (w .length) after) ≡ accepted rows
+read-write-read d rows r present before after w b e s p l x = ap reading (written-front rows before after w l (read-written d rows r present before after w e s p x)) ∙ read-again d rows b e
