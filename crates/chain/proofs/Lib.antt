@@ -9,4 +9,5 @@ pub mod DeckOpened
 pub mod Looks
 pub mod Histories
 pub mod Demand
+pub mod Decks
 mod Examples
