@@ -7,11 +7,6 @@ use Rattle.optimum.specs.Key.{Key, empty, _⊕_, better}
 use Rattle.optimum.specs.Table.{stored}
 use Rattle.optimum.proofs.Keys.{key-eq, _≼_, more, same, better-left, better-right, sub-ge}
 
--- The empty chain's key is stored as two zeros.
-pub stored-empty : stored 0 0 ≡ empty
-unfolding empty
-stored-empty = refl
-
 -- Stored keys are added number by number.
 pub stored-add : (t m t′ m′ : ℕ) → stored t m ⊕ stored t′ m′ ≡ stored (t + t′) (m + m′)
 unfolding _⊕_

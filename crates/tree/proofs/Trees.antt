@@ -7,13 +7,13 @@ use lib.ListN.{length}
 use lib.Seq.{take-at}
 use Rattle.tree.specs.Run.{Run, spell, size, lefts}
 use Rattle.tree.specs.Run.Run.{end, dot, pair}
-use Rattle.tree.specs.Nested.{leaf, Nested}
+use Rattle.tree.specs.Nested.{Nested}
 use Rattle.tree.specs.Reading.{Reading, reading, readOf, treeOf, single, leavesOf, IsTree}
 use Rattle.tree.specs.Reading.Reading.{accepted, refused}
 use Rattle.tree.specs.declared.Tree.{Tree}
 use Rattle.tree.specs.declared.TreeRead.{TreeRead}
 use Rattle.tree.proofs.Lengths.{length-some, length-few}
-use Rattle.tree.proofs.Leaves.{nested, root-left, length-all}
+use Rattle.tree.proofs.Leaves.{nested, length-all}
 use Rattle.tree.proofs.Splits.{size-spell}
 use Rattle.tree.proofs.Grounds.{accepted-spell}
 
@@ -54,8 +54,3 @@ module _ (t : Tree) (h : IsTree t) where
 
   pub tree-nested : Nested (leavesOf t)
   tree-nested = subst Nested (sym tree-left) (nested (h .run))
-
-  pub tree-root : leaf (leavesOf t) (t .n - 1) ≡ 0
-  tree-root =
-      let e : t .n - 1 ≡ size (h .run) = omega (arith, tree-size) in
-      ap (leaf (leavesOf t)) e ∙ ap (λ (l : List ℕ). leaf l (size (h .run))) tree-left ∙ root-left (h .run)
