@@ -1,0 +1,46 @@
+-- `cases::areas::column_fits` is safe and ends: its loop counts. The measure is the turns left. Assumes nothing.
+use borrow.Author.Needs.{needs}
+use Prim.Native.Nat.{_-_}
+use Rattle.cases.proofs.areas.column_fits.Statement.{statement}
+use Rattle.cases.proofs.areas.column_fits.Tie as tie
+
+abbrev Inv-loop : tie.InvT-loop
+Inv-loop trees seed a b j i₀ i = Unit
+
+abbrev μ-loop : tie.MeasureT-loop
+μ-loop trees seed a b j i₀ i = 16 - i
+
+loop-holds : tie.Need-loop-holds Inv-loop μ-loop
+loop-holds c = search needs
+
+fits-requires : tie.Need-fits-requires Inv-loop μ-loop
+fits-requires c κs = search needs
+
+returns : tie.Need-returns Inv-loop μ-loop
+returns c = search needs
+
+add-i : tie.Need-add-i Inv-loop μ-loop
+add-i c = search needs
+
+loop-less : tie.Need-loop-less Inv-loop μ-loop
+loop-less c = search needs
+
+loop-again : tie.Need-loop-again Inv-loop μ-loop
+loop-again c = search needs
+
+returns-2 : tie.Need-returns-2 Inv-loop μ-loop
+returns-2 c = search needs
+
+pub column-fits-spec : {M : Type 1} → statement M
+column-fits-spec =
+    tie.close
+    (tie.spec
+    Inv-loop
+    μ-loop
+    loop-holds
+    fits-requires
+    returns
+    add-i
+    loop-less
+    loop-again
+    returns-2)

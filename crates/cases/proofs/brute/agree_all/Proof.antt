@@ -1,0 +1,54 @@
+-- `cases::brute::agree_all` is safe and ends: its loop counts. The measure is the turns left. Assumes nothing.
+use borrow.Author.Needs.{needs}
+use Prim.Native.Nat.{_-_}
+use Rattle.cases.proofs.brute.agree_all.Statement.{statement}
+use Rattle.cases.proofs.brute.agree_all.Tie as tie
+
+abbrev Inv-loop : tie.InvT-loop
+Inv-loop trees p u q t k₀ k = Unit
+
+abbrev μ-loop : tie.MeasureT-loop
+μ-loop trees p u q t k₀ k = 4 - k
+
+loop-holds : tie.Need-loop-holds Inv-loop μ-loop
+loop-holds c = search needs
+
+node-requires : tie.Need-node-requires Inv-loop μ-loop
+node-requires c κs = search needs
+
+node-requires-2 : tie.Need-node-requires-2 Inv-loop μ-loop
+node-requires-2 c κs = search needs
+
+agree-requires : tie.Need-agree-requires Inv-loop μ-loop
+agree-requires c κs = search needs
+
+returns : tie.Need-returns Inv-loop μ-loop
+returns c = search needs
+
+add-k : tie.Need-add-k Inv-loop μ-loop
+add-k c = search needs
+
+loop-less : tie.Need-loop-less Inv-loop μ-loop
+loop-less c = search needs
+
+loop-again : tie.Need-loop-again Inv-loop μ-loop
+loop-again c = search needs
+
+returns-2 : tie.Need-returns-2 Inv-loop μ-loop
+returns-2 c = search needs
+
+pub agree-all-spec : {M : Type 1} → statement M
+agree-all-spec =
+    tie.close
+    (tie.spec
+    Inv-loop
+    μ-loop
+    loop-holds
+    node-requires
+    node-requires-2
+    agree-requires
+    returns
+    add-k
+    loop-less
+    loop-again
+    returns-2)

@@ -1,0 +1,52 @@
+-- `cases::texts::is_closed` is safe and ends: the range ends with the slice. The measure is the bytes left. Assumes nothing.
+use borrow.Author.Needs.{needs}
+use mathlib.Core.Path.{_≡_}
+use Prim.Native.Nat.{_-_}
+use lib.ListN.{length}
+use Rattle.cases.proofs.texts.is_closed.Statement.{statement}
+use Rattle.cases.proofs.texts.is_closed.Tie as tie
+
+abbrev Inv-loop : tie.InvT-loop
+Inv-loop s at depth₀ k₀ k-end depth k = k-end ≡ length s
+
+abbrev μ-loop : tie.MeasureT-loop
+μ-loop s at depth₀ k₀ k-end depth k = k-end - k
+
+loop-holds : tie.Need-loop-holds Inv-loop μ-loop
+loop-holds c = search needs
+
+shared-slice-read-deeper : tie.Need-shared-slice-read-deeper Inv-loop μ-loop
+shared-slice-read-deeper c = search needs
+
+deeper-requires : tie.Need-deeper-requires Inv-loop μ-loop
+deeper-requires c κs = search needs
+
+returns : tie.Need-returns Inv-loop μ-loop
+returns c = search needs
+
+add-k : tie.Need-add-k Inv-loop μ-loop
+add-k c = search needs
+
+loop-less : tie.Need-loop-less Inv-loop μ-loop
+loop-less c = search needs
+
+loop-again : tie.Need-loop-again Inv-loop μ-loop
+loop-again c = search needs
+
+returns-2 : tie.Need-returns-2 Inv-loop μ-loop
+returns-2 c = search needs
+
+pub is-closed-spec : {M : Type 1} → statement M
+is-closed-spec =
+    tie.close
+    (tie.spec
+    Inv-loop
+    μ-loop
+    loop-holds
+    shared-slice-read-deeper
+    deeper-requires
+    returns
+    add-k
+    loop-less
+    loop-again
+    returns-2)

@@ -1,0 +1,64 @@
+-- `cases::words::number` is safe and ends: the range ends with the slice. The measure is the bytes left. Assumes nothing.
+use borrow.Author.Needs.{needs}
+use mathlib.Core.Path.{_≡_}
+use Prim.Native.Nat.{_-_}
+use lib.ListN.{length}
+use Rattle.cases.proofs.words.number.Statement.{statement}
+use Rattle.cases.proofs.words.number.Tie as tie
+
+abbrev Inv-loop : tie.InvT-loop
+Inv-loop s at n₀ k₀ k-end n k = k-end ≡ length s
+
+abbrev μ-loop : tie.MeasureT-loop
+μ-loop s at n₀ k₀ k-end n k = k-end - k
+
+loop-holds : tie.Need-loop-holds Inv-loop μ-loop
+loop-holds c = search needs
+
+shared-slice-read-if1 : tie.Need-shared-slice-read-if1 Inv-loop μ-loop
+shared-slice-read-if1 c = search needs
+
+returns : tie.Need-returns Inv-loop μ-loop
+returns c = search needs
+
+shared-slice-read-if2 : tie.Need-shared-slice-read-if2 Inv-loop μ-loop
+shared-slice-read-if2 c = search needs
+
+returns-2 : tie.Need-returns-2 Inv-loop μ-loop
+returns-2 c = search needs
+
+shared-slice-read-tenfold : tie.Need-shared-slice-read-tenfold Inv-loop μ-loop
+shared-slice-read-tenfold c = search needs
+
+tenfold-requires : tie.Need-tenfold-requires Inv-loop μ-loop
+tenfold-requires c κs = search needs
+
+add-k : tie.Need-add-k Inv-loop μ-loop
+add-k c = search needs
+
+loop-less : tie.Need-loop-less Inv-loop μ-loop
+loop-less c = search needs
+
+loop-again : tie.Need-loop-again Inv-loop μ-loop
+loop-again c = search needs
+
+returns-3 : tie.Need-returns-3 Inv-loop μ-loop
+returns-3 c = search needs
+
+pub number-spec : {M : Type 1} → statement M
+number-spec =
+    tie.close
+    (tie.spec
+    Inv-loop
+    μ-loop
+    loop-holds
+    shared-slice-read-if1
+    returns
+    shared-slice-read-if2
+    returns-2
+    shared-slice-read-tenfold
+    tenfold-requires
+    add-k
+    loop-less
+    loop-again
+    returns-3)

@@ -1,0 +1,243 @@
+// A random session beside a plain table of its seeds: lists are added, and seeds withdrawn, brought back and rescored, and every answer is
+// held to what the table asks.
+use super::answers::ground_of;
+use super::answers::kind_of;
+use super::answers::place_of;
+use super::brute::List;
+use super::brute::Trees;
+use super::brute::both;
+use super::brute::judge;
+use super::draw::draw;
+use super::draw::list;
+use super::plain::more;
+use super::plain::part;
+use super::table::Table;
+use super::table::is_present;
+use super::table::with_points;
+use super::table::with_presence;
+use super::table::with_seed;
+use super::tally::Count;
+use super::tally::Seen;
+use super::tally::counted;
+use super::tally::with_seeds;
+use answer::Answer;
+use chain::Added;
+use chain::Session;
+ghost use Rattle.chain.specs.View.{Sound};
+
+// The session and its trees, the table of its seeds, and what is counted.
+pub struct Play {
+    pub session: Session,
+    pub trees: Trees,
+    pub table: Table,
+    pub count: Count,
+    pub seen: Seen,
+}
+
+// The score that so many points are.
+fn score_of(points: usize) -> i32 {
+    let scores = [-5, -4, -3, -2, -1, 0, 1, 2, 3, 4, 5];
+    if points < 11 { scores[points] } else { 0 }
+}
+
+// A refused add names the number that the seed would have got, and an accepted one answers it.
+fn place_asked(number: usize, ground: usize) -> usize {
+    if ground == 0 { 0 } else { number }
+}
+
+fn kind_asked(ground: usize) -> u8 {
+    if ground == 0 { b'-' } else { b's' }
+}
+
+fn number_asked(number: usize, ground: usize) -> usize {
+    if ground == 0 { number } else { 0 }
+}
+
+// Whether an add answered as the ground asks, for the seed of this number.
+fn add_right(answer: Answer, given: usize, ground: usize, number: usize) -> bool {
+    if ground_of(answer) != ground {
+        return false;
+    }
+    if kind_of(answer) != kind_asked(ground) {
+        return false;
+    }
+    if place_of(answer) != place_asked(number, ground) {
+        return false;
+    }
+    given == number_asked(number, ground)
+}
+
+fn with_new(t: Table, trees: Trees, l: List, points: usize, ground: usize) -> Table {
+    if ground == 0 {
+        return with_seed(t, trees, l, points);
+    }
+    t
+}
+
+fn added(session: Session, qs: [u8; 4], ts: [u8; 4], n: usize, score: i32) -> Added
+    requires { ⌜ Sound session ⌝ }
+    ensures { λ r. ⌜ Sound (r .session) ⌝ }
+{
+    session.added(part(&qs, 0, n), part(&ts, 0, n), score)
+}
+
+// One random list is added.
+pub fn add(p: Play, state: &mut u64) -> Play
+    requires { ⌜ Sound (p .session) ⌝ }
+    ensures { λ r. ⌜ Sound (r .session) ⌝ }
+{
+    let trees = p.trees;
+    let table = p.table;
+    let session = p.session;
+    let count = p.count;
+    let seen = p.seen;
+    let l = list(state, trees);
+    let points = draw(state, 11);
+    let q = l.q;
+    let t = l.t;
+    let qs = q.node;
+    let ts = t.node;
+    let r = added(session, qs, ts, q.count, score_of(points));
+    let answer = r.answer;
+    let ground = judge(trees, l);
+    let right = add_right(answer, r.number, ground, more(table.count));
+    let later = r.session;
+    let mut next = p;
+    next.session = later;
+    next.table = with_new(table, trees, l, points, ground);
+    next.count = counted(count, ground, right);
+    next.seen = with_seeds(seen, ground);
+    next
+}
+
+// The ground of a call on a seed number, where the last test is whether the seed is present already as asked.
+fn move_ground(t: Table, number: usize, to: bool) -> usize {
+    if number < 1 {
+        return 9;
+    }
+    if t.count < number {
+        return 9;
+    }
+    if is_present(t, number - 1) {
+        if to {
+            return 10;
+        }
+        return 0;
+    }
+    if to { 0 } else { 10 }
+}
+
+fn with_moved(t: Table, number: usize, to: bool, ground: usize) -> Table {
+    if ground == 0 {
+        if 0 < number {
+            return with_presence(t, number - 1, to);
+        }
+    }
+    t
+}
+
+fn answered(p: Play, session: Session, answer: Answer, ground: usize, table: Table) -> Play
+    requires { ⌜ Sound session ⌝ }
+    ensures { λ r. ⌜ Sound (r .session) ⌝ }
+{
+    let count = p.count;
+    let right = both(ground_of(answer) == ground, kind_of(answer) == b'-');
+    let mut next = p;
+    next.session = session;
+    next.table = table;
+    next.count = counted(count, ground, right);
+    next
+}
+
+fn withdraw(p: Play, number: usize) -> Play
+    requires { ⌜ Sound (p .session) ⌝ }
+    ensures { λ r. ⌜ Sound (r .session) ⌝ }
+{
+    let session = p.session;
+    let table = p.table;
+    let ground = move_ground(table, number, false);
+    let r = session.withdraw(number);
+    let later = r.session;
+    let answer = r.answer;
+    answered(
+        p,
+        later,
+        answer,
+        ground,
+        with_moved(table, number, false, ground),
+    )
+}
+
+fn bring_back(p: Play, number: usize) -> Play
+    requires { ⌜ Sound (p .session) ⌝ }
+    ensures { λ r. ⌜ Sound (r .session) ⌝ }
+{
+    let session = p.session;
+    let table = p.table;
+    let ground = move_ground(table, number, true);
+    let r = session.bring_back(number);
+    let later = r.session;
+    let answer = r.answer;
+    answered(
+        p,
+        later,
+        answer,
+        ground,
+        with_moved(table, number, true, ground),
+    )
+}
+
+fn rescore_ground(t: Table, number: usize) -> usize {
+    if number < 1 {
+        return 9;
+    }
+    if t.count < number {
+        return 9;
+    }
+    0
+}
+
+fn with_rescored(t: Table, number: usize, points: usize, ground: usize) -> Table {
+    if ground == 0 {
+        if 0 < number {
+            return with_points(t, number - 1, points);
+        }
+    }
+    t
+}
+
+fn rescore(p: Play, number: usize, points: usize) -> Play
+    requires { ⌜ Sound (p .session) ⌝ }
+    ensures { λ r. ⌜ Sound (r .session) ⌝ }
+{
+    let session = p.session;
+    let table = p.table;
+    let ground = rescore_ground(table, number);
+    let r = session.rescored(number, score_of(points));
+    let later = r.session;
+    let answer = r.answer;
+    answered(
+        p,
+        later,
+        answer,
+        ground,
+        with_rescored(table, number, points, ground),
+    )
+}
+
+// One random change.
+pub fn change(p: Play, state: &mut u64) -> Play
+    requires { ⌜ Sound (p .session) ⌝ }
+    ensures { λ r. ⌜ Sound (r .session) ⌝ }
+{
+    let table = p.table;
+    let number = draw(state, more(more(table.count)));
+    let way = draw(state, 5);
+    if way < 2 {
+        return withdraw(p, number);
+    }
+    if way < 3 {
+        return bring_back(p, number);
+    }
+    rescore(p, number, draw(state, 11))
+}

@@ -1,0 +1,147 @@
+// Stretches of random structures, every run of two numbers, held to the definition.
+use super::answers::ground_of;
+use super::answers::kind_of;
+use super::draw::Sample;
+use super::draw::structure;
+use super::nodes::Nodes;
+use super::nodes::Reader;
+use super::nodes::owner;
+use super::nodes::parent;
+use super::nodes::reading;
+use super::plain::more;
+use super::plain::part;
+use super::tally::Count;
+use super::tally::counted;
+use super::tally::none;
+use super::tally::print_sample;
+
+fn within(a: usize, b: usize, i: usize) -> bool {
+    if i < a { false } else { i <= b }
+}
+
+// Whether a child of a node of the run stands outside it.
+fn cut(t: Nodes, a: usize, b: usize) -> bool {
+    for i in 0..16 {
+        if within(a, b, parent(t, i)) {
+            if !within(a, b, i) {
+                return true;
+            }
+        }
+    }
+    false
+}
+
+// Whether the nodes of the run whose parents stand outside it all have the parent p.
+fn siblings(t: Nodes, a: usize, b: usize, p: usize) -> bool {
+    for i in 0..16 {
+        if within(a, b, i) {
+            if !within(a, b, parent(t, i)) {
+                if parent(t, i) != p {
+                    return false;
+                }
+            }
+        }
+    }
+    true
+}
+
+// Whether the nodes a to b are whole subtrees of neighbouring siblings, without the added root.
+fn is_stretch(t: Nodes, a: usize, b: usize) -> bool {
+    if b < a {
+        return false;
+    }
+    if t.n <= more(b) {
+        return false;
+    }
+    if cut(t, a, b) {
+        return false;
+    }
+    siblings(t, a, b, parent(t, b))
+}
+
+// Where the bytes of the nodes a to b begin, and where they end.
+fn first_byte(r: Reader, a: usize, b: usize) -> usize {
+    for k in 0..16 {
+        if within(a, b, owner(r, k)) {
+            return k;
+        }
+    }
+    0
+}
+
+fn last_byte(r: Reader, a: usize, b: usize) -> usize {
+    let mut end = 0;
+    for k in 0..16 {
+        if within(a, b, owner(r, k)) {
+            end = k + 1;
+        }
+    }
+    end
+}
+
+fn stretch_right(s: &[u8], r: Reader, a: usize, b: usize) -> bool {
+    let answer = tree::stretch_check(s, a, b);
+    let ground = ground_of(answer);
+    let spelled = tree::stretch(s, a, b);
+    let nodes = r.nodes;
+    if is_stretch(nodes, a, b) {
+        if ground != 0 {
+            return false;
+        }
+        return check::same(spelled, part(s, first_byte(r, a, b), last_byte(r, a, b)));
+    }
+    if ground != 15 {
+        return false;
+    }
+    if kind_of(answer) != b'-' {
+        return false;
+    }
+    spelled.len() == 0
+}
+
+fn ground(t: Nodes, a: usize, b: usize) -> usize {
+    if is_stretch(t, a, b) { 0 } else { 15 }
+}
+
+// The runs that begin at a node.
+fn from_node(count: Count, s: &[u8], a: usize) -> Count {
+    let r = reading(s);
+    let nodes = r.nodes;
+    let mut next = count;
+    for b in 0..13 {
+        next = counted(next, ground(nodes, a, b), stretch_right(s, r, a, b));
+    }
+    next
+}
+
+fn from_bytes(count: Count, bytes: [u8; 12], n: usize, a: usize) -> Count {
+    from_node(count, part(&bytes, 0, n), a)
+}
+
+fn all_runs(count: Count, sample: Sample) -> Count {
+    let bytes = sample.bytes;
+    let n = sample.len;
+    let mut next = count;
+    for a in 0..13 {
+        next = from_bytes(next, bytes, n, a);
+    }
+    next
+}
+
+fn one(count: Count, sample: Sample) -> Count {
+    let next = all_runs(count, sample);
+    if count.wrong < next.wrong {
+        print_sample(b"  in a stretch of ", sample);
+    }
+    next
+}
+
+pub fn stretches(cases: usize, seed: u64) -> Count {
+    let mut state = seed;
+    let mut count = none();
+    for _ in 0..cases {
+        let sample = structure(&mut state);
+        count = one(count, sample);
+    }
+    count
+}
