@@ -12,12 +12,12 @@ use lib.Seq.{sets, drop-cons, drop-drop, getD-drop}
 use Rattle.tree.specs.Run.{Run, spell, size, leftsFrom}
 use Rattle.tree.specs.Run.Run.{end, dot, pair}
 use Rattle.tree.specs.Reading.{meaningOf, Runs, first, onto, runs}
-use Rattle.tree.specs.Building.{itemOf, grown, Ready}
 use Rattle.tree.specs.Reading.Runs.{last, more}
+use Rattle.tree.specs.Building.{runAt, itemOf, Ready, Grown, OpensAt, RunRead, ItemRead}
 use Rattle.tree.specs.declared.character.Meaning.{Meaning}
 use Rattle.tree.specs.declared.character.Meaning.the-variants.{Unpaired, Opening, Closing, Refused}
-use Rattle.tree.specs.declared.run.Built.{Built}
-use Rattle.tree.proofs.Meanings.{tag, tag-not-closing}
+use Rattle.tree.specs.declared.run.Reached.{Reached}
+use Rattle.tree.proofs.Meanings.{tag, tag-not-closing, clash}
 use Rattle.tree.proofs.Leaves.{length-lefts}
 use Rattle.tree.proofs.Splits.{splits, first-fits, item-fits, size-spell, ended, ended-end, ended-closing, ended-other, onto-open, closer, onto-pair, restOf, rest-read}
 
@@ -26,14 +26,25 @@ sets-append : (l : List ℕ) (i : ℕ) (xs ys : List ℕ) → sets l i (xs ++ ys
 sets-append l i [] ys = ap (λ (k : ℕ). sets l k ys) (sym (add-zero i))
 sets-append l i (x ∷ xs) ys = sets-append (set l i x) (suc i) xs ys ∙ ap (λ (k : ℕ). sets (sets (set l i x) (suc i) xs) k ys) (omega arith)
 
-built : (a a′ n n′ : ℕ) (l l′ : List ℕ) → a ≡ a′ → n ≡ n′ → l ≡ l′ → _≡_ {A = Built} (record { at = a; n = n; left = l }) (record { at = a′; n = n′; left = l′ })
-built a a′ n n′ l l′ p q r = λ j. record { at = p j; n = q j; left = r j }
+-- The leftmost leaves of a bracket pair are those of the run inside it, and its own.
+pair-left : (l : List ℕ) (n : ℕ) (r : Run) → set (sets l n (leftsFrom n r)) (n + size r) n ≡ sets l n (leftsFrom n r ++ n ∷ [])
+pair-left l n r = ap (λ (k : ℕ). set (sets l n (leftsFrom n r)) (n + k) n) (sym (length-lefts n r)) ∙ sym (sets-append l n (leftsFrom n r) (n ∷ []))
 
-grown-end : (b : Built) → b ≡ grown b end
-grown-end b = built _ _ _ _ _ _ (sym (add-zero (b .at))) (sym (add-zero (b .n))) refl
+-- A run is its first item and the rest: its bytes, its nodes, and their leftmost leaves.
+rest-length : (r : Run) → length (spell (itemOf r)) + length (spell (restOf r)) ≡ length (spell r)
+rest-length end = refl
+rest-length (dot c r) = omega arith
+rest-length (pair o i c r) = omega (arith, length-append (spell i) (c ∷ []), length-append (spell i) (c ∷ spell r))
 
-pair-left : (l : List ℕ) (n : ℕ) (i r : Run) → sets (sets l n (leftsFrom n i ++ n ∷ [])) (n + (size i + 1)) (leftsFrom (n + (size i + 1)) r) ≡ sets l n (leftsFrom n i ++ n ∷ leftsFrom (n + suc (size i)) r)
-pair-left l n i r =
+rest-size : (r : Run) → size (itemOf r) + size (restOf r) ≡ size r
+rest-size end = refl
+rest-size (dot c r) = omega arith
+rest-size (pair o i c r) = omega arith
+
+rest-left : (l : List ℕ) (n : ℕ) (r : Run) → let k = n + size (itemOf r) in sets (sets l n (leftsFrom n (itemOf r))) k (leftsFrom k (restOf r)) ≡ sets l n (leftsFrom n r)
+rest-left l n end = refl
+rest-left l n (dot c r) = ap (λ (k : ℕ). sets (set l n n) k (leftsFrom k r)) (add-one n)
+rest-left l n (pair o i c r) =
     let X : List ℕ = sets l n (leftsFrom n i ++ n ∷ []) in
     let L : List ℕ = leftsFrom (n + suc (size i)) r in
     let p : n + (size i + 1) ≡ n + suc (size i) = omega arith in
@@ -42,34 +53,6 @@ pair-left l n i r =
     ∙ ap (λ (k : ℕ). sets X k L) q
     ∙ sym (sets-append l n (leftsFrom n i ++ n ∷ []) L)
     ∙ ap (λ (v : List ℕ). sets l n v) (append-assoc (leftsFrom n i) (n ∷ []) L)
-
-grown-rest : (b : Built) (r : Run) → grown (grown b (itemOf r)) (restOf r) ≡ grown b r
-grown-rest b end = sym (grown-end (grown b end))
-grown-rest b (dot c r) = built _ _ _ _ _ _ (omega arith) (omega arith) (ap (λ (k : ℕ). sets (set (b .left) (b .n) (b .n)) k (leftsFrom k r)) (add-one (b .n)))
-grown-rest b (pair o i c r) = built _ _ _ _ _ _ (omega (arith, length-append (spell i) (c ∷ []), length-append (spell i) (c ∷ spell r))) (omega arith) (pair-left (b .left) (b .n) i r)
-
--- A bracket pair is the run inside it, read from one byte on, and one node more.
-grown-pair : (b : Built) (o : ℕ) (r : Run) (c : ℕ) → let m = grown (record { at = b .at + 1; n = b .n; left = b .left }) r in _≡_ {A = Built} (record { at = m .at + 1; n = m .n + 1; left = set (m .left) (m .n) (b .n) }) (grown b (pair o r c end))
-grown-pair b o r c = built _ _ _ _ _ _ (omega (arith, length-append (spell r) (c ∷ []))) (omega arith) (ap (λ (k : ℕ). set (sets (b .left) (b .n) (leftsFrom (b .n) r)) (b .n + k) (b .n)) (sym (length-lefts (b .n) r)) ∙ sym (sets-append (b .left) (b .n) (leftsFrom (b .n) r) (b .n ∷ [])))
-
--- A part that is ready stays ready once it has grown by what is read there, or by the first item of that.
-ready-item : (s : List ℕ) (b : Built) → Ready s b → Ready s (grown b (itemOf (first (runs (drop (b .at) s)))))
-ready-item s b h =
-    let r : Run = first (runs (drop (b .at) s)) in
-    record {
-      short = h .short;
-      inside = omega (arith, first-fits (drop (b .at) s), item-fits r, length-drop (b .at) s, h .inside);
-      fewer = omega (arith, size-spell (itemOf r), h .fewer);
-    }
-
-ready-run : (s : List ℕ) (b : Built) → Ready s b → Ready s (grown b (first (runs (drop (b .at) s))))
-ready-run s b h =
-    let r : Run = first (runs (drop (b .at) s)) in
-    record {
-      short = h .short;
-      inside = omega (arith, first-fits (drop (b .at) s), length-drop (b .at) s, h .inside);
-      fewer = omega (arith, size-spell r, h .fewer);
-    }
 
 -- A closing or a refused byte begins no item.
 other-item : (m : Meaning) → (tag m ≡ 2) ⊎ (tag m ≡ 3) → (x : ℕ) (rs : Runs) → itemOf (first (onto m x rs)) ≡ end
@@ -82,87 +65,126 @@ onto-dot : (x : ℕ) (rs : Runs) → itemOf (first (onto Unpaired x rs)) ≡ dot
 onto-dot x (last r) = refl
 onto-dot x (more r c rs) = refl
 
--- The part of a tree inside a bracket that opens at b.
-abbrev pub inside-of : Built → Built
-inside-of b = record { at = b .at + 1; n = b .n; left = b .left }
-
-abbrev pub with-node : Built → ℕ → Built
-with-node b k = record { at = b .at + 1; n = b .n + 1; left = set (b .left) (b .n) k }
-
-pub ready-inside : (s : List ℕ) (b : Built) → Ready s b → b .at < length s → Ready s (inside-of b)
-ready-inside s b h lt = record { short = h .short; inside = omega arith; fewer = omega (arith, h .fewer) }
-
 no-item : (r : Run) → length (spell (itemOf r)) ≡ 0 → r ≡ end
 no-item end h = refl
 no-item (dot c r) h = absurd (omega arith)
 no-item (pair o i c r) h = absurd (omega arith)
 
--- The item at a position, in each case of the code that reads it.
-module _ (s : List ℕ) (b : Built) where
-  abbrev Read : Built
-  Read = grown b (itemOf (first (runs (drop (b .at) s))))
+-- What is read has no more nodes than bytes.
+pub fewer-nodes : {r : Run} {stuck : Type 0} {at n : ℕ} {left : List ℕ} {x : Reached} {after : List ℕ} → Grown r stuck at n left x after → n ≤ at → x .n ≤ x .at
+fewer-nodes {r} h le = omega (arith, size-spell r)
 
+module _ (s : List ℕ) (at n : ℕ) (left : List ℕ) where
   abbrev Byte : ℕ
-  Byte = getD s (b .at) 0
+  Byte = getD s at 0
 
   abbrev Next : List ℕ
-  Next = drop (b .at + 1) s
+  Next = drop (at + 1) s
 
-  pub item-end : length s ≤ b .at → b ≡ Read
-  item-end h = grown-end b ∙ ap (λ (l : List ℕ). grown b (itemOf (first (runs l)))) (sym (drop-of-length-le s h))
+  reads : {x : Reached} {after : List ℕ} (r : Run) → itemOf (runAt s at) ≡ r → Grown r ((x .at ≡ at) × OpensAt s at) at n left x after → ItemRead s at n left x after
+  reads {x} {after} r e h = subst (λ (q : Run). Grown q ((x .at ≡ at) × OpensAt s at) at n left x after) (sym e) h
 
-  module _ (lt : b .at < length s) (m : Meaning) (is : m ≡ meaningOf (getD s (b .at) 0)) where
-    at-byte : runs (drop (b .at) s) ≡ onto m Byte (runs Next)
-    at-byte = ap runs (drop-cons s (b .at) 0 lt) ∙ ap₂ (λ (k : ℕ) (x : Meaning). onto x Byte (runs (drop k s))) (sym (add-one (b .at))) (sym is)
+  -- Nothing is read. The leaves are as they were, or what was never closed is an opening byte.
+  stays : {after : List ℕ} → itemOf (runAt s at) ≡ end → ((OpensAt s at → ⊥) → after ≡ left) → ItemRead s at n left (record { at = at; n = n }) after
+  stays e f = reads end e (record { passed = sym (add-zero at); counted = sym (add-zero n); written = λ g. f (λ o. g (refl, o)) })
 
-    reads : (r : Run) → itemOf (first (onto m Byte (runs Next))) ≡ r → grown b r ≡ Read
-    reads r e = ap (grown b) (sym e ∙ ap (λ (x : Runs). itemOf (first x)) (sym at-byte))
+  -- The item at a byte, in each case of the code that reads it.
+  pub item-end : length s ≤ at → ItemRead s at n left (record { at = at; n = n }) left
+  item-end h = stays (ap (λ (l : List ℕ). itemOf (first (runs l))) (drop-of-length-le s h)) (λ f. refl)
 
-    pub item-other : (tag m ≡ 2) ⊎ (tag m ≡ 3) → b ≡ Read
-    item-other h = grown-end b ∙ reads end (other-item m h Byte (runs Next))
+  module _ (lt : at < length s) (m : Meaning) (is : m ≡ meaningOf (getD s at 0)) where
+    item-is : itemOf (runAt s at) ≡ itemOf (first (onto m Byte (runs Next)))
+    item-is = ap (λ (x : Runs). itemOf (first x)) (ap runs (drop-cons s at 0 lt) ∙ ap₂ (λ (k : ℕ) (x : Meaning). onto x Byte (runs (drop k s))) (sym (add-one at)) (sym is))
 
-    pub item-dot : m ≡ Unpaired → (x : Built) → x ≡ with-node b (b .n) → x ≡ Read
-    item-dot e x f = f ∙ reads (dot Byte end) (ap (λ (k : Meaning). itemOf (first (onto k Byte (runs Next)))) e ∙ onto-dot Byte (runs Next))
+    pub item-other : (tag m ≡ 2) ⊎ (tag m ≡ 3) → ItemRead s at n left (record { at = at; n = n }) left
+    item-other h = stays (item-is ∙ other-item m h Byte (runs Next)) (λ f. refl)
 
-    module _ (opens : m ≡ Opening) (x : Built) (inner : x ≡ grown (inside-of b) (first (runs Next))) where
-      stops : x .at ≡ b .at + 1 + length (spell (first (runs Next)))
-      stops = ap (λ (y : Built). y .at) inner
+    pub item-dot : m ≡ Unpaired → ItemRead s at n left (record { at = at + 1; n = n + 1 }) (set left n n)
+    item-dot e = reads (dot Byte end) (item-is ∙ ap (λ (k : Meaning). itemOf (first (onto k Byte (runs Next)))) e ∙ onto-dot Byte (runs Next)) (record { passed = refl; counted = refl; written = λ f. refl })
+
+    module _ (opens : m ≡ Opening) (x : Reached) (after : List ℕ) (inner : RunRead s (at + 1) n left x after) where
+      opening-is : itemOf (runAt s at) ≡ itemOf (first (onto Opening Byte (runs Next)))
+      opening-is = item-is ∙ ap (λ (k : Meaning). itemOf (first (onto k Byte (runs Next)))) opens
 
       close-byte : getD Next (length (spell (first (runs Next)))) 0 ≡ getD s (x .at) 0
-      close-byte = getD-drop (b .at + 1) s (length (spell (first (runs Next)))) 0 ∙ ap (λ (k : ℕ). getD s k 0) (sym stops)
+      close-byte = getD-drop (at + 1) s (length (spell (first (runs Next)))) 0 ∙ ap (λ (k : ℕ). getD s k 0) (sym (inner .passed))
 
-      unended : ended (runs Next) ≡ false → b ≡ Read
-      unended e = grown-end b ∙ reads end (ap (λ (k : Meaning). itemOf (first (onto k Byte (runs Next)))) opens ∙ ap (λ (y : Runs). itemOf (first y)) (onto-open Byte (runs Next) e))
+      unended : ended (runs Next) ≡ false → ItemRead s at n left (record { at = at; n = n }) after
+      unended e = stays (opening-is ∙ ap (λ (y : Runs). itemOf (first y)) (onto-open Byte (runs Next) e)) (λ f. absurd (f (sym is ∙ opens)))
 
-      pub item-unended : length s ≤ x .at → b ≡ Read
-      item-unended h = unended (ended-end Next (runs Next) (splits Next) (omega (arith, length-drop (b .at + 1) s, stops)))
+      pub item-unended : length s ≤ x .at → ItemRead s at n left (record { at = at; n = n }) after
+      item-unended h = unended (ended-end Next (runs Next) (splits Next) (omega (arith, length-drop (at + 1) s, inner .passed)))
 
-      pub item-unclosed : (k : Meaning) → k ≡ meaningOf (getD s (x .at) 0) → (tag k ≡ 0) ⊎ ((tag k ≡ 1) ⊎ (tag k ≡ 3)) → b ≡ Read
-      item-unclosed k f h = unended (ended-other Next (runs Next) (splits Next) (λ e. tag-not-closing k h (f ∙ ap meaningOf (sym close-byte) ∙ e)))
+      module _ (k : Meaning) (closes : k ≡ meaningOf (getD s (x .at) 0)) where
+        pub item-unclosed : (tag k ≡ 0) ⊎ ((tag k ≡ 1) ⊎ (tag k ≡ 3)) → ItemRead s at n left (record { at = at; n = n }) after
+        item-unclosed h = unended (ended-other Next (runs Next) (splits Next) (λ e. tag-not-closing k h (closes ∙ ap meaningOf (sym close-byte) ∙ e)))
 
-      pub item-closed : x .at < length s → (k : Meaning) → k ≡ meaningOf (getD s (x .at) 0) → k ≡ Closing → (y : Built) → y ≡ with-node x (b .n) → y ≡ Read
-      item-closed h k f g y e =
-          let now-ended : ended (runs Next) ≡ true = ended-closing Next (runs Next) (splits Next) (omega (arith, length-drop (b .at + 1) s, stops)) (ap meaningOf close-byte ∙ sym f ∙ g) in
-          e ∙ ap (λ (z : Built). with-node z (b .n)) inner ∙ grown-pair b Byte (first (runs Next)) (closer (runs Next))
-          ∙ reads (pair Byte (first (runs Next)) (closer (runs Next)) end) (ap (λ (j : Meaning). itemOf (first (onto j Byte (runs Next)))) opens ∙ onto-pair Byte (runs Next) now-ended)
+        pub item-closed : x .at < length s → k ≡ Closing → ItemRead s at n left (record { at = x .at + 1; n = x .n + 1 }) (set after (x .n) n)
+        item-closed h e =
+            let r : Run = runAt s (at + 1) in
+            let now-ended : ended (runs Next) ≡ true = ended-closing Next (runs Next) (splits Next) (omega (arith, length-drop (at + 1) s, inner .passed)) (ap meaningOf close-byte ∙ sym closes ∙ e) in
+            reads (pair Byte r (closer (runs Next)) end) (opening-is ∙ onto-pair Byte (runs Next) now-ended)
+            (record {
+              passed = omega (arith, inner .passed, length-append (spell r) (closer (runs Next) ∷ []));
+              counted = omega (arith, inner .counted);
+              written = λ f. ap₂ (λ (l : List ℕ) (j : ℕ). set l j n) (inner .written (λ o. clash (cc))) (inner .counted) ∙ pair-left left n r;
+            })
 
-  pub ready-after-item : (x : Built) → x ≡ Read → Ready s b → Ready s x
-  ready-after-item x e h = subst (Ready s) (sym e) (ready-item s b h)
+  -- The run at a byte, in each case of the code that reads it.
+  module _ (x : Reached) (after : List ℕ) (item : ItemRead s at n left x after) where
+    run-done : x .at ≡ at → RunRead s at n left x after
+    run-done h =
+        let e : runAt s at ≡ end = no-item (runAt s at) (omega (arith, item .passed)) in
+        subst (λ (r : Run). Grown r (OpensAt s (x .at)) at n left x after) (ap itemOf e ∙ sym e)
+        (record { passed = item .passed; counted = item .counted; written = λ f. item .written (λ w. f (subst (OpensAt s) (sym h) (w .1))) })
 
-  pub ready-after-run : (x : Built) → x ≡ grown b (first (runs (drop (b .at) s))) → Ready s b → Ready s x
-  ready-after-run x e h = subst (Ready s) (sym e) (ready-run s b h)
+    run-more : (x .at ≡ at → ⊥) → (y : Reached) (filled : List ℕ) → RunRead s (x .at) (x .n) after y filled → RunRead s at n left y filled
+    run-more ne y filled rest =
+        let r : Run = runAt s at in
+        let e : runAt s (x .at) ≡ restOf r = ap (runAt s) (item .passed) ∙ ap (λ (l : List ℕ). first (runs l)) (sym (drop-drop (length (spell (itemOf r))) at s)) ∙ rest-read (drop at s) in
+        record {
+          passed = omega (arith, item .passed, rest .passed, rest-length r, ap (λ (q : Run). length (spell q)) e);
+          counted = omega (arith, item .counted, rest .counted, rest-size r, ap size e);
+          written = λ f. rest .written f
+              ∙ ap (λ (q : Run). sets after (x .n) (leftsFrom (x .n) q)) e
+              ∙ ap₂ (λ (l : List ℕ) (k : ℕ). sets l k (leftsFrom k (restOf r))) (item .written (λ w. ne (w .0))) (item .counted)
+              ∙ rest-left left n r;
+        }
 
-  -- The run at a position, in each case of the code that reads it.
-  pub run-done : (x : Built) → x ≡ Read → x .at ≡ b .at → b ≡ grown b (first (runs (drop (b .at) s)))
-  run-done x e h = grown-end b ∙ ap (grown b) (sym (no-item (first (runs (drop (b .at) s))) (omega (arith, ap (λ (y : Built). y .at) e))))
+  -- Where a run can be read, one can be read past an opening byte, and past an item.
+  module _ (ready : Ready s at n left) where
+    pub ready-inside : at < length s → Ready s (at + 1) n left
+    ready-inside lt = record { short = ready .short; inside = omega arith; fewer = omega (arith, ready .fewer); room = ready .room }
 
-  pub run-more : (x : Built) → x ≡ Read → (y : Built) → y ≡ grown x (first (runs (drop (x .at) s))) → y ≡ grown b (first (runs (drop (b .at) s)))
-  run-more x e y f =
-      let r : Run = first (runs (drop (b .at) s)) in
-      f ∙ ap (λ (z : Built). grown z (first (runs (drop (z .at) s)))) e
-      ∙ ap (λ (l : List ℕ). grown Read (first (runs l))) (sym (drop-drop (length (spell (itemOf r))) (b .at) s))
-      ∙ ap (grown Read) (rest-read (drop (b .at) s))
-      ∙ grown-rest b r
+    ready-past : (x : Reached) (after : List ℕ) → ItemRead s at n left x after → length after ≡ length left → Ready s (x .at) (x .n) after
+    ready-past x after h e =
+        let r : Run = runAt s at in
+        record {
+          short = ready .short;
+          inside = omega (arith, h .passed, first-fits (drop at s), item-fits r, length-drop at s, ready .inside);
+          fewer = fewer-nodes h (ready .fewer);
+          room = omega (arith, ready .room);
+        }
 
-  pub run-moves : (x : Built) → x ≡ Read → (x .at ≡ b .at → ⊥) → b .at < x .at
-  run-moves x e h = let k = ap (λ (y : Built). y .at) e in omega arith
+-- The items of a run are read up to the byte at `here`: a run can be read there, and once it is, the whole run is read.
+pub record ReadSoFar (s : List ℕ) (at n : ℕ) (left : List ℕ) (here : Reached) (after : List ℕ) : Type 0 where
+  pub onward : at ≤ here .at
+  pub kept : length after ≡ length left
+  pub ready : Ready s (here .at) (here .n) after
+  pub whole : (x : Reached) (filled : List ℕ) → RunRead s (here .at) (here .n) after x filled → RunRead s at n left x filled
+
+module _ (s : List ℕ) (at n : ℕ) (left : List ℕ) where
+  pub run-starts : Ready s at n left → ReadSoFar s at n left (record { at = at; n = n }) left
+  run-starts h = record { onward = omega arith; kept = refl; ready = h; whole = λ x filled r. r }
+
+  module _ (here : Reached) (after : List ℕ) (far : ReadSoFar s at n left here after) (x : Reached) (filled : List ℕ) (item : ItemRead s (here .at) (here .n) after x filled) where
+    pub run-ends : x .at ≡ here .at → RunRead s at n left x filled
+    run-ends h = far .whole x filled (run-done s (here .at) (here .n) after x filled item h)
+
+    pub run-goes-on : (x .at ≡ here .at → ⊥) → length filled ≡ length after → ReadSoFar s at n left x filled
+    run-goes-on ne e = record {
+      onward = omega (arith, far .onward, item .passed);
+      kept = e ∙ far .kept;
+      ready = ready-past s (here .at) (here .n) after (far .ready) x filled item e;
+      whole = λ y last r. far .whole y last (run-more s (here .at) (here .n) after x filled item ne y last r);
+    }

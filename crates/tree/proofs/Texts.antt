@@ -6,7 +6,7 @@ use Prim.Native.Nat.{ℕ, zero, suc, _+_, _-_, _≤_, _<_}
 use native.Mathlib.Omega.{arith}
 use native.Mathlib.Nat.{zero-add, sub-zero}
 use mathlib.Core.List.{List, [], _∷_, _++_, append-assoc}
-use lib.ListN.{length, getD, drop, replicate, length-replicate}
+use lib.ListN.{length, getD, drop, replicate, length-replicate, List·getD-eq-default}
 use lib.Seq.{sets, sets-eq}
 use borrow.Author.Tests.{eq-eqb, ne-eqb, lt-ltb, le-ltb}
 use Rattle.answer.specs.declared.Ground.{Ground}
@@ -14,13 +14,13 @@ use Rattle.answer.specs.declared.Ground.the-variants.{TextLength, UnknownByte, 
 use Rattle.answer.specs.declared.Answer.the-variants.{Accepted}
 use Rattle.tree.specs.Run.{Run, spell, size, leftsFrom, lefts}
 use Rattle.tree.specs.Reading.{meaningOf, first, runs, firstRefused, badLength, groundAt, stopped, reading, readOf}
-use Rattle.tree.specs.Building.{grown, Ready}
+use Rattle.tree.specs.Building.{Ready, OpensAt, RunRead}
 use Rattle.tree.specs.Reading.Reading.{accepted, refused}
 use Rattle.tree.specs.declared.character.Meaning.{Meaning}
 use Rattle.tree.specs.declared.character.Meaning.the-variants.{Unpaired, Opening, Closing, Refused}
-use Rattle.tree.specs.declared.run.Built.{Built}
+use Rattle.tree.specs.declared.run.Reached.{Reached}
 use Rattle.tree.specs.declared.TreeRead.{TreeRead}
-use Rattle.tree.proofs.Meanings.{tag}
+use Rattle.tree.proofs.Meanings.{tag, clash}
 use Rattle.tree.proofs.Leaves.{length-lefts}
 use Rattle.tree.proofs.Lengths.{length-few}
 use Rattle.tree.proofs.Splits.{first-fits, size-spell}
@@ -44,9 +44,9 @@ padded m r h =
     (drop-zeros (0 + length vs) (suc m) ∙ ap zeros e)
     ∙ sym (append-assoc vs (0 ∷ []) (zeros (m - size r)))
 
--- Nothing is built yet.
-abbrev pub start : Built
-start = record { at = 0; n = 0; left = zeros 256 }
+-- No byte stands at the end of a text.
+end-opens : (s : List ℕ) (k : ℕ) → k ≡ length s → OpensAt s k → ⊥
+end-opens s k e o = let z = ap meaningOf (List·getD-eq-default s 0 {n = k} (omega arith)) in clash (cc)
 
 ground-other : (m : Meaning) → (tag m ≡ 0) ⊎ ((tag m ≡ 1) ⊎ (tag m ≡ 3)) → groundAt m ≡ NeverClosed
 ground-other Unpaired h = refl
@@ -63,8 +63,13 @@ module _ (s : List ℕ) where
   read-length h = rw h
 
   module _ (fits : badLength (length s) ≡ false) where
-    pub read-ready : Ready s start
-    read-ready = record { short = length-few (length s) fits; inside = omega arith; fewer = omega arith }
+    pub read-ready : Ready s 0 0 (zeros 256)
+    read-ready = record {
+      short = length-few (length s) fits;
+      inside = omega arith;
+      fewer = omega arith;
+      room = omega (arith, length-few (length s) fits, length-replicate {A = ℕ} 256 0);
+    }
 
     module _ (u : ℕ) (unknown : u ≡ firstRefused s) where
       pub read-unknown : u < length s → reading s ≡ refused UnknownByte u
@@ -76,9 +81,9 @@ module _ (s : List ℕ) where
         unfolding reading
         read-stopped = rw (fits, ← unknown, le-ltb u (length s) clean)
 
-        module _ (x : Built) (is : x ≡ grown start (first (runs s))) where
+        module _ (x : Reached) (left : List ℕ) (is : RunRead s 0 0 (zeros 256) x left) where
           at-stop : x .at ≡ length (spell (first (runs s)))
-          at-stop = ap (λ (y : Built). y .at) is ∙ zero-add (length (spell (first (runs s))))
+          at-stop = is .passed ∙ zero-add (length (spell (first (runs s))))
 
           pub read-inside : (x .at ≡ length s → ⊥) → x .at < length s
           read-inside ne = omega (arith, first-fits s, at-stop)
@@ -87,13 +92,13 @@ module _ (s : List ℕ) where
           few = omega (arith, size-spell (first (runs s)), first-fits s, length-few (length s) fits)
 
           pub read-few : x .n ≤ 255
-          read-few = omega (arith, ap (λ (y : Built). y .n) is, few)
+          read-few = omega (arith, is .counted, few)
 
-          pub read-all : x .at ≡ length s → _≡_ {A = TreeRead} (record { answer = Accepted; tree = record { n = x .n + 1; left = x .left } }) (readOf (reading s))
+          pub read-all : x .at ≡ length s → _≡_ {A = TreeRead} (record { answer = Accepted; tree = record { n = x .n + 1; left = left } }) (readOf (reading s))
           read-all e =
               let r : Run = first (runs s) in
               let st : stopped s r ≡ accepted r = rw (eq-eqb (length (spell r)) (length s) (sym at-stop ∙ e)) in
-              read-tree (x .n) (size r) (x .left) (lefts r ++ zeros (255 - size r)) (ap (λ (y : Built). y .n) is ∙ zero-add (size r)) (ap (λ (y : Built). y .left) is ∙ padded 255 r few)
+              read-tree (x .n) (size r) left (lefts r ++ zeros (255 - size r)) (is .counted ∙ zero-add (size r)) (is .written (end-opens s (x .at) e) ∙ padded 255 r few)
               ∙ sym (ap readOf (read-stopped ∙ st))
 
           module _ (ne : x .at ≡ length s → ⊥) (m : Meaning) (means : m ≡ meaningOf (getD s (x .at) 0)) where

@@ -1,11 +1,18 @@
 -- What is built of a tree while a text is read. Assumes nothing.
+use mathlib.Core.Path.{_≡_}
 use Prim.Native.Nat.{ℕ, _+_, _≤_}
 use mathlib.Core.List.{List}
-use lib.ListN.{length}
+use lib.ListN.{length, getD, drop}
 use lib.Seq.{sets}
 use Rattle.tree.specs.Run.{Run, spell, size, leftsFrom}
 use Rattle.tree.specs.Run.Run.{end, dot, pair}
-use Rattle.tree.specs.declared.run.Built.{Built}
+use Rattle.tree.specs.Reading.{meaningOf, first, runs}
+use Rattle.tree.specs.declared.character.Meaning.the-variants.{Opening}
+use Rattle.tree.specs.declared.run.Reached.{Reached}
+
+-- The run that is read from a byte of a text on.
+abbrev pub runAt : List ℕ → ℕ → Run
+runAt s at = first (runs (drop at s))
 
 -- The first item of a run by itself.
 abbrev pub itemOf : Run → Run
@@ -13,12 +20,28 @@ itemOf end = end
 itemOf (dot c r) = dot c end
 itemOf (pair o i c r) = pair o i c end
 
--- What is built once a run more is read: its bytes are passed, its nodes numbered on, and their leftmost leaves written.
-abbrev pub grown : Built → Run → Built
-grown b r = record { at = b .at + length (spell r); n = b .n + size r; left = sets (b .left) (b .n) (leftsFrom (b .n) r) }
-
--- Where a run can be read: at a byte of a text of at most 255, with no more nodes before it than bytes.
-pub record Ready (s : List ℕ) (b : Built) : Type 0 where
+-- Where a run can be read: at a byte of a text of at most 255, with no more nodes before it than bytes, and room for a leaf for each byte.
+pub record Ready (s : List ℕ) (at n : ℕ) (left : List ℕ) : Type 0 where
   pub short : length s ≤ 255
-  pub inside : b .at ≤ length s
-  pub fewer : b .n ≤ b .at
+  pub inside : at ≤ length s
+  pub fewer : n ≤ at
+  pub room : length s ≤ length left
+
+-- What is built once a run more is read: its bytes are passed, its nodes numbered on, and their leftmost leaves written. Where the reading
+-- is stuck, the leaves are whatever was written inside an opening byte that is never closed.
+pub record Grown (r : Run) (stuck : Type 0) (at n : ℕ) (left : List ℕ) (x : Reached) (after : List ℕ) : Type 0 where
+  pub passed : x .at ≡ at + length (spell r)
+  pub counted : x .n ≡ n + size r
+  pub written : (stuck → ⊥) → after ≡ sets left n (leftsFrom n r)
+
+-- An opening byte stands at a place of a text.
+abbrev pub OpensAt : List ℕ → ℕ → Type 0
+OpensAt s at = meaningOf (getD s at 0) ≡ Opening
+
+-- A run is stuck where it stops at an opening byte.
+abbrev pub RunRead : List ℕ → ℕ → ℕ → List ℕ → Reached → List ℕ → Type 0
+RunRead s at n left x after = Grown (runAt s at) (OpensAt s (x .at)) at n left x after
+
+-- An item is stuck where it is not read past its opening byte.
+abbrev pub ItemRead : List ℕ → ℕ → ℕ → List ℕ → Reached → List ℕ → Type 0
+ItemRead s at n left x after = Grown (itemOf (runAt s at)) ((x .at ≡ at) × OpensAt s at) at n left x after

@@ -9,7 +9,6 @@ use answer::Place;
 use character::Meaning;
 use character::first_refused;
 use character::meaning_of;
-use run::Built;
 use run::read_run;
 use search::locate;
 ghost use mathlib.Core.Path.{_≡_};
@@ -70,20 +69,13 @@ pub fn read(text: &[u8]) -> TreeRead
     if unknown < len {
         return refused(Ground::UnknownByte, unknown);
     }
-    let b = read_run(
-        text,
-        Built {
-            at: 0,
-            n: 0,
-            left: [0u8; 256],
-        },
-    );
-    let at = b.at;
+    let mut left = [0u8; 256];
+    let end = read_run(text, 0, 0, &mut left[..]);
+    let at = end.at;
     if at == len {
-        let left = b.left;
         return TreeRead {
             answer: Answer::Accepted,
-            tree: Tree { n: b.n + 1, left },
+            tree: Tree { n: end.n + 1, left },
         };
     }
     let meaning = meaning_of(text[at]);
