@@ -9,7 +9,7 @@ use answer::Ground;
 use answer::Place;
 use tree::Tree;
 ghost use mathlib.Core.Path.{_≡_};
-ghost use mathlib.Core.Bool.{_&&_};
+ghost use mathlib.Core.Bool.{true, _&&_};
 ghost use lib.Dec.{eqb};
 ghost use Rattle.answer.specs.declared.Answer.the-variants as answer;
 ghost use Rattle.answer.specs.declared.Place.the-variants as place;
@@ -210,15 +210,12 @@ fn children_spanned(l: &[u8], xs: &[u8], x: usize) -> bool
     true
 }
 
-// Whether node x is one of the nodes xs, or outside their span, or off its border.
+// Whether node x of the span of the nodes xs is one of them or off the border.
 fn paired(l: &[u8], xs: &[u8], x: usize) -> bool
-    requires { ⌜ Nested (now l) ⌝ }
+    requires { ⌜ Nested (now l) ⌝ ∗ ⌜ test.spans (now l) (now xs) x ≡ true ⌝ }
     ensures { λ r. ⌜ r ≡ test.paired (now (l .entry)) (now (xs .entry)) x ⌝ }
 {
     if has(xs, x) {
-        return true;
-    }
-    if !spans(l, xs, x) {
         return true;
     }
     if leaf_at(l, x) == x {
@@ -227,17 +224,24 @@ fn paired(l: &[u8], xs: &[u8], x: usize) -> bool
     children_spanned(l, xs, x)
 }
 
-// Whether every border node of the span of the nodes xs is one of them.
+// Whether every border node of the span of the nodes xs is one of them. Below a node outside the span no node is in it.
 fn bordered(l: &[u8], xs: &[u8]) -> bool
     requires { ⌜ Nested (now l) ⌝ }
     ensures { λ r. ⌜ r ≡ test.bordered (now (l .entry)) (now (xs .entry)) ⌝ }
 {
-    let mut k = last_node(xs) as usize + 1;
-    while 0 < k {
-        if !paired(l, xs, k - 1) {
-            return false;
+    let last = last_node(xs) as usize;
+    let low = leaf_at(l, last);
+    let mut end = last + 1;
+    while low < end {
+        let x = end - 1;
+        if spans(l, xs, x) {
+            if !paired(l, xs, x) {
+                return false;
+            }
+            end = x;
+        } else {
+            end = leaf_at(l, x);
         }
-        k -= 1;
     }
     true
 }
@@ -264,7 +268,7 @@ fn refused(ground: Ground, number: usize) -> Answer
 }
 
 // What is answered of a list that is to be seed number `number` on the trees of two lists of leftmost leaves.
-fn judge_on(lq: &[u8], lt: &[u8], qs: &[u8], ts: &[u8], number: usize) -> Answer
+pub fn judge_on(lq: &[u8], lt: &[u8], qs: &[u8], ts: &[u8], number: usize) -> Answer
     requires { ⌜ (Nested (now lq)) × (Nested (now lt)) ⌝ }
     ensures { λ r. ⌜ r ≡ test.judgeOf (now (lq .entry)) (now (lt .entry)) (pairsOf (now (qs .entry)) (now (ts .entry))) number ⌝ }
 {
