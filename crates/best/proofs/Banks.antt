@@ -1,13 +1,14 @@
 -- A key that is put into a bank of the scratch, and the search for the best of a bank. Assumes nothing.
-use mathlib.Core.Path.{_≡_, refl, ap₂, _∙_}
-use mathlib.Core.Bool.{Bool, cond}
+use mathlib.Core.Path.{_≡_, refl, ap, ap₂, _∙_}
+use mathlib.Core.Bool.{Bool, true, false}
 use mathlib.Core.List.{List}
-use mathlib.Core.Logic.{_≢_}
-use Prim.Native.Nat.{ℕ, _+_, _≤_, _<_}
+use mathlib.Core.Logic.{_≢_, inl, inr}
+use Prim.Native.Nat.{ℕ, zero, suc, _+_, _≤_, _<_}
 use native.Mathlib.Numerals.{add-one}
 use native.Mathlib.Omega.{arith}
 use lib.ListN.{length, getD, set, length-set}
 use lib.Seq.{getD-set-same, getD-set-other}
+use Rattle.tree.proofs.Leaves.{lt-or-le}
 use Rattle.optimum.specs.Key.{Key, empty, better}
 use Rattle.optimum.specs.Table.{maxBelow, stored}
 use Rattle.best.specs.Table.{keyAt}
@@ -41,6 +42,16 @@ pub max-start : (p : ℕ → Bool) (d : ℕ → Key) → stored 0 0 ≡ maxBelow
 unfolding maxBelow empty
 max-start p d = refl
 
-pub max-turn : (p : ℕ → Bool) (d : ℕ → Key) (n : ℕ) {on : Bool} {a b r : Key} → a ≡ maxBelow p d n → on ≡ p n → b ≡ d n → r ≡ cond on (better a b) a → r ≡ maxBelow p d (n + 1)
+-- The numbers that do not pass change nothing, and one that does is considered.
+pub max-past : (p : ℕ → Bool) (d : ℕ → Key) (k n : ℕ) → k ≤ n → ((j : ℕ) → k ≤ j → j < n → p j ≡ false) → maxBelow p d k ≡ maxBelow p d n
 unfolding maxBelow
-max-turn p d n e f g h = rw (add-one n, ← e, ← f, ← g) h
+max-past p d k zero h f = let z : k ≡ zero = omega arith in ap (maxBelow p d) z
+max-past p d k (suc n) h f =
+    elim (lt-or-le n k) [
+      | inl g ↦ (let z : k ≡ suc n = omega arith in ap (maxBelow p d) z)
+      | inr g ↦ max-past p d k n g (λ j a b. f j a (omega arith)) ∙ rw (f n g (omega arith))
+    ]
+
+pub max-turn : (p : ℕ → Bool) (d : ℕ → Key) (k n : ℕ) {a b r : Key} → k ≤ n → ((j : ℕ) → k ≤ j → j < n → p j ≡ false) → p n ≡ true → a ≡ maxBelow p d k → b ≡ d n → r ≡ better a b → r ≡ maxBelow p d (n + 1)
+unfolding maxBelow
+max-turn p d k n h f t e g q = rw (add-one n, t, ← max-past p d k n h f, ← e, ← g) q

@@ -1,7 +1,7 @@
 -- Which numbers masks have: one made number by number, the one of two, and the one of all. Assumes nothing.
 use mathlib.Core.Path.{_≡_, refl, ap, _∙_}
 use mathlib.Core.Bool.{Bool, true, false, cond, _&&_}
-use Prim.Native.Nat.{ℕ, zero, suc, _+_, _/_, _%_, _^_, _-_, _<_}
+use Prim.Native.Nat.{ℕ, zero, suc, _+_, _/_, _%_, _^_, _<_}
 use native.Mathlib.Numerals.{add-one}
 use native.Mathlib.Omega.{arith}
 use lib.Bits.{bitAnd, and-shr, and-mod}
@@ -25,7 +25,7 @@ common a b i =
     ∙ ap (λ x. eqb x 1) (and-mod (a / 2 ^ i) (b / 2 ^ i) 1)
     ∙ and-digits (a / 2 ^ i % 2) (b / 2 ^ i % 2) (omega arith) (omega arith)
 
-mask-same : (f g : ℕ → Bool) (n : ℕ) → ((i : ℕ) → i < n → f i ≡ g i) → maskOf f n ≡ maskOf g n
+pub mask-same : (f g : ℕ → Bool) (n : ℕ) → ((i : ℕ) → i < n → f i ≡ g i) → maskOf f n ≡ maskOf g n
 unfolding maskOf
 mask-same f g zero h = refl
 mask-same f g (suc n) h = cc (mask-same f g n (λ i b. h i (omega arith)), h n (omega arith))
@@ -56,6 +56,3 @@ all-ones i h = rw (← ones, mask-has (λ j. true) 64 i, T-eq {b = ltb i 64} (lt
 -- What a test that a program has made says.
 pub told-yes : {a b : Bool} → a ≡ b → a ≡ true → T b
 told-yes e t = rw (← e, t) tt
-
-pub told-no : {a b : Bool} → a ≡ b → a ≡ false → T b → ⊥
-told-no e t = rw (← e, t) (λ x. x)

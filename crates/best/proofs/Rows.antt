@@ -1,6 +1,7 @@
 -- The table on the scratch, filled row by row, gives the best key. Assumes nothing.
 use mathlib.Core.Path.{_≡_, refl, sym, ap, ap₂, _∙_, fun-ext}
-use mathlib.Core.Bool.{true, _&&_}
+use mathlib.Core.Bool.{true, false, _&&_}
+use mathlib.Core.Logic.{inl, inr}
 use mathlib.Core.List.{List}
 use Prim.Native.Nat.{ℕ, _+_, _^_, _≤_, _<_}
 use native.Mathlib.Numerals.{add-one}
@@ -9,6 +10,7 @@ use lib.Bits.{bitAnd}
 use lib.Dec.{T}
 use lib.IntN.{ℤ}
 use lib.ListN.{length, getD, set}
+use Rattle.tree.proofs.Leaves.{lt-or-le}
 use Rattle.optimum.specs.Key.{Key, empty, _⊕_, better, inMask, seedKey}
 use Rattle.optimum.specs.Table.{Items, bestOf, chainable, maxBelow, Filled, Row, stored}
 use Rattle.optimum.proofs.StoredKeys.{stored-add}
@@ -39,23 +41,23 @@ module _ (xs lefts : List ℕ) (row n : ℕ) (h : RowRoom xs lefts row n) (k : �
       (ap₂ stored (f .kept (items + k) (omega (arith, h .few))) (f .kept (items + 64 + k) (omega (arith, h .few))))
       (ap (λ p. maxBelow p (keyAt ys rows) k) (sym (both lefts row k)))
 
-  pub row-room : EntryRoom ys row (getD lefts k 0) k
-  row-room =
+  pub row-room : T (inMask row k) → EntryRoom ys row (getD lefts k 0) k
+  row-room on =
       record {
         few = omega (arith, h .few);
         long = omega (arith, h .long, f .long);
-        small = λ t u m e. h .small (keyAt ys rows) k b t (f .row-is) u m (sym entry-is ∙ e);
+        small = λ u m e. h .small (keyAt ys rows) k b on (f .row-is) u m (sym entry-is ∙ e);
       }
 
   -- One entry more.
-  pub row-turn : (zs : List ℕ) (t m : ℕ) → (T (inMask row k) → stored t m ≡ entryOf ys row (getD lefts k 0) k) → zs ≡ set (set ys (rows + k) t) (rows + 64 + k) m → RowFilled xs lefts row (k + 1) zs
+  pub row-turn : (zs : List ℕ) (t m : ℕ) → stored t m ≡ entryOf ys row (getD lefts k 0) k → zs ≡ set (set ys (rows + k) t) (rows + 64 + k) m → RowFilled xs lefts row (k + 1) zs
   row-turn zs t m e g =
       record {
         long = put-long ys zs rows k t m g ∙ f .long;
         row-is =
             rw (add-one k)
             (row-next (marked lefts) (inMask row) (keyAt xs items) (keyAt ys rows) (keyAt zs rows) k (f .row-is)
-            (put-before ys zs rows k t m g few room) (λ on. put-here ys zs rows k t m g few room ∙ e on ∙ entry-is));
+            (put-before ys zs rows k t m g few room) (λ on. put-here ys zs rows k t m g few room ∙ e ∙ entry-is));
         kept = λ i a. put-beside ys zs rows k t m g i (λ x. omega arith) (λ x. omega arith) ∙ f .kept i a;
       }
     where
@@ -65,11 +67,21 @@ module _ (xs lefts : List ℕ) (row n : ℕ) (h : RowRoom xs lefts row n) (k : �
       room : rows + 128 ≤ length ys
       room = omega (arith, h .long, f .long)
 
+-- Items that the mask has not change nothing.
+pub row-past : (xs lefts : List ℕ) (row k n : ℕ) (ys : List ℕ) → RowFilled xs lefts row k ys → ((j : ℕ) → k ≤ j → j < n → inMask row j ≡ false) → RowFilled xs lefts row n ys
+unfolding Row
+row-past xs lefts row k n ys f none =
+    record {
+      long = f .long;
+      row-is = λ j b t. elim (lt-or-le j k) [ inl g ↦ f .row-is j g t | inr g ↦ absurd (rw (none j g b) at t) ];
+      kept = f .kept;
+    }
+
 -- An entry that is small is added with no overflow.
-pub entry-room : (xs : List ℕ) (row left k : ℕ) → EntryRoom xs row left k → T (inMask row k) → (t m t′ m′ : ℕ) → stored t m ≡ keyAt xs items k → stored t′ m′ ≡ maxBelow (inMask (bitAnd row left)) (keyAt xs rows) k → (t + t′ < 2 ^ 64) × (m + m′ < 2 ^ 64)
+pub entry-room : (xs : List ℕ) (row left k : ℕ) → EntryRoom xs row left k → (t m t′ m′ : ℕ) → stored t m ≡ keyAt xs items k → stored t′ m′ ≡ maxBelow (inMask (bitAnd row left)) (keyAt xs rows) k → (t + t′ < 2 ^ 64) × (m + m′ < 2 ^ 64)
 unfolding entryOf
-entry-room xs row left k h on t m t′ m′ e f =
-    let s = h .small on (t + t′) (m + m′) (ap₂ _⊕_ (sym e) (sym f) ∙ stored-add t m t′ m′) in
+entry-room xs row left k h t m t′ m′ e f =
+    let s = h .small (t + t′) (m + m′) (ap₂ _⊕_ (sym e) (sym f) ∙ stored-add t m t′ m′) in
     (omega (arith, s .total), s .mask)
 
 pub entry-joined : (xs : List ℕ) (row left k : ℕ) {a b r : Key} → a ≡ keyAt xs items k → b ≡ maxBelow (inMask (bitAnd row left)) (keyAt xs rows) k → r ≡ a ⊕ b → r ≡ entryOf xs row left k

@@ -1,14 +1,15 @@
 -- How seeds stand to one another: the masks of those left of one and of those under it. Assumes nothing.
 use mathlib.Core.Path.{_≡_}
-use mathlib.Core.List.{List}
+use mathlib.Core.List.{List, [], _∷_}
 use Prim.Native.Nat.{ℕ, _+_, _≤_, _<_}
 use lib.ListN.{length, getD}
 use Rattle.seed.specs.AreaList.{left, under}
-use Rattle.seed.specs.Pairs.{pairsOf}
+use Rattle.seed.specs.Pairs.{pairOf, pairsOf}
+use Rattle.seed.specs.Seed.{lastPair}
 use Rattle.seed.specs.Store.{between}
 use Rattle.seed.specs.declared.Pair.{Pair}
 use Rattle.optimum.specs.Key.{maskOf}
-use Rattle.best.specs.Order.{Bounded}
+use Rattle.best.specs.Order.{Bounded, lastOf}
 use Rattle.best.specs.declared.stands.Stand.{Stand}
 use Rattle.best.specs.declared.stands.Masks.{Masks}
 
@@ -27,12 +28,31 @@ standOf Q T s u = record { left = left Q T s u; under = under Q T s u }
 unfoldable pub masksOf : List ℕ → List ℕ → (ℕ → List Pair) → List Pair → ℕ → Masks
 masksOf Q T seed u n = record { left = maskOf (λ x. left Q T (seed x) u) n; under = maskOf (λ x. under Q T (seed x) u) n }
 
--- The first m of a list are numbers of seeds that the lists of a store have.
-pub record Placed (qs ts bounds numbers : List ℕ) (m : ℕ) : Type 0 where
+-- The first m of a list are numbers of seeds that the lists of a store have in one tree, and in both.
+pub record Listed (nodes bounds numbers : List ℕ) (m : ℕ) : Type 0 where
   pub few : m ≤ 64
   pub long : m ≤ length numbers
-  pub bounded-q : (k : ℕ) → k < m → Bounded qs bounds (getD numbers k 0)
-  pub bounded-t : (k : ℕ) → k < m → Bounded ts bounds (getD numbers k 0)
+  pub bounded : (k : ℕ) → k < m → Bounded nodes bounds (getD numbers k 0)
+
+pub record Placed (qs ts bounds numbers : List ℕ) (m : ℕ) : Type 0 where
+  pub listed-q : Listed qs bounds numbers m
+  pub listed-t : Listed ts bounds numbers m
+
+-- The last node of each of them.
+pub record Lasts (nodes bounds numbers : List ℕ) (m : ℕ) (last : List ℕ) : Type 0 where
+  pub long : length last ≡ 64
+  pub are : (k : ℕ) → k < m → getD last k 0 ≡ lastOf nodes bounds (getD numbers k 0)
+
+-- A seed of one pair: the last pair of the seed at k.
+abbrev pub alone : List ℕ → List ℕ → ℕ → List Pair
+alone rq rt k = pairOf (getD rq k 0) (getD rt k 0) ∷ []
+
+-- Lists of last nodes reach to y, and there have the last pair of the seed of uq and ut.
+pub record LastAt (uq ut rq rt : List ℕ) (y : ℕ) : Type 0 where
+  pub few : y < 64
+  pub long-q : y < length rq
+  pub long-t : y < length rt
+  pub is : pairOf (getD rq y 0) (getD rt y 0) ≡ lastPair (pairsOf uq ut)
 
 -- The pairs of the seed whose number a list has at k.
 abbrev pub seedAt : List ℕ → List ℕ → List ℕ → List ℕ → ℕ → List Pair

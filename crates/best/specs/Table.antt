@@ -1,7 +1,7 @@
 -- The table on the scratch: keys in banks of 64 totals and 64 masks, over items of which masks say what stands left of them and under them.
 -- Assumes nothing.
 use mathlib.Core.Path.{_≡_}
-use mathlib.Core.Bool.{Bool, _&&_}
+use mathlib.Core.Bool.{Bool, true, false, _&&_}
 use mathlib.Core.List.{List}
 use Prim.Native.Nat.{ℕ, _+_, _≤_, _<_}
 use lib.Bits.{bitAnd}
@@ -23,6 +23,12 @@ items = 0
 abbrev pub rows : ℕ
 rows = 128
 
+-- A mask has k and no number below k.
+pub record Lowest (mask k : ℕ) : Type 0 where
+  pub few : k < 64
+  pub has : inMask mask k ≡ true
+  pub none : (j : ℕ) → j < k → inMask mask j ≡ false
+
 -- Item x is in the mask of item y.
 abbrev pub marked : List ℕ → ℕ → ℕ → Bool
 marked masks x y = inMask (getD masks y 0) x
@@ -39,7 +45,7 @@ entryOf xs row left k = keyAt xs items k ⊕ maxBelow (inMask (bitAnd row left))
 pub record EntryRoom (xs : List ℕ) (row left k : ℕ) : Type 0 where
   pub few : k < 64
   pub long : 256 ≤ length xs
-  pub small : T (inMask row k) → (t m : ℕ) → entryOf xs row left k ≡ stored t m → Small t m
+  pub small : (t m : ℕ) → entryOf xs row left k ≡ stored t m → Small t m
 
 -- What a row over the first n items takes: the banks, and that each entry stays in bounds, whatever fills the row by the recurrence.
 pub record RowRoom (xs lefts : List ℕ) (row n : ℕ) : Type 0 where

@@ -1,13 +1,12 @@
 // Stored keys, and the banks of the scratch that hold them: 64 totals and 64 masks each.
 ghost use mathlib.Core.Path.{_≡_};
-ghost use mathlib.Core.Bool.{cond};
-ghost use Prim.Native.Nat.{_+_, _^_, _≤_, _<_};
-ghost use lib.IntN.{ℤ};
+ghost use mathlib.Core.Logic.{_≢_};
+ghost use Prim.Native.Nat.{_+_, _-_, _^_, _≤_, _<_};
 ghost use lib.ListN.{length, set, replicate};
 ghost use Rattle.optimum.specs.Key.{empty, better, _⊕_, inMask};
 ghost use Rattle.optimum.specs.Table.{stored};
 ghost use Rattle.seed.specs.Tab.{tab};
-ghost use Rattle.best.specs.Table.{keyAt};
+ghost use Rattle.best.specs.Table.{Lowest, keyAt};
 
 // The total of a chain and the mask of its numbers.
 pub struct Stored {
@@ -16,7 +15,7 @@ pub struct Stored {
 }
 
 // The better of two keys: the greater total, or of equal totals the smaller mask.
-fn better_of(a: Stored, b: Stored) -> Stored
+pub fn better_of(a: Stored, b: Stored) -> Stored
     ensures { λ r. ⌜ stored (r .total) (r .mask) ≡ better (stored (a .total) (a .mask)) (stored (b .total) (b .mask)) ⌝ }
 {
     if a.total < b.total {
@@ -29,13 +28,6 @@ fn better_of(a: Stored, b: Stored) -> Stored
         return b;
     }
     a
-}
-
-// The better of two keys if the second is on, and else the first.
-pub fn consider(a: Stored, on: bool, b: Stored) -> Stored
-    ensures { λ r. ⌜ stored (r .total) (r .mask) ≡ cond on (better (stored (a .total) (a .mask)) (stored (b .total) (b .mask))) (stored (a .total) (a .mask)) ⌝ }
-{
-    if on { better_of(a, b) } else { a }
 }
 
 // The key of two chains together.
@@ -70,6 +62,22 @@ pub fn has(mask: u64, i: usize) -> bool
     ensures { λ r. ⌜ r ≡ inMask mask i ⌝ }
 {
     (mask >> i) % 2 == 1
+}
+
+// The lowest number that a mask has.
+pub fn lowest(mask: u64) -> usize
+    requires { ⌜ mask ≢ 0 ⌝ }
+    ensures { λ r. ⌜ Lowest mask r ⌝ }
+{
+    u64::trailing_zeros(mask) as usize
+}
+
+// The mask without k, its lowest number.
+pub fn without_lowest(mask: u64, k: usize) -> u64
+    requires { ⌜ mask ≢ 0 ⌝ ∗ ⌜ Lowest mask k ⌝ }
+    ensures { λ r. ⌜ r ≡ mask - 2 ^ k ⌝ }
+{
+    mask & (mask - 1)
 }
 
 // The mask of one number.

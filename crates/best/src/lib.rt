@@ -62,22 +62,19 @@ fn best_key(
 {
     let lq = q.left;
     let lt = t.left;
-    let nq = q.n;
-    let nt = t.n;
     let qs = store.qs;
     let ts = store.ts;
     let bounds = store.bounds;
     let order = ordered(&qs[..], &bounds[..], present, seeds);
-    let count = order.count;
     let numbers = order.numbers;
     let relation = relate(
-        &lq[..nq],
-        &lt[..nt],
+        &lq[..q.n],
+        &lt[..t.n],
         &qs[..],
         &ts[..],
         &bounds[..],
         &numbers[..],
-        count,
+        order.count,
     );
     let lefts = relation.lefts;
     let unders = relation.unders;
@@ -87,7 +84,7 @@ fn best_key(
         &unders[..],
         &numbers[..],
         scores,
-        count,
+        order.count,
     )
 }
 

@@ -1,12 +1,17 @@
 // How the seeds of a list stand to one another, by masks.
 use super::keys::bit;
-use seed::stands::left;
-use seed::stands::under;
+use super::order::last_of;
+use seed::Pair;
+use seed::leaf_at;
+use seed::stands::fits;
 ghost use mathlib.Core.Path.{_≡_};
 ghost use mathlib.Core.Bool.{cond};
-ghost use Prim.Native.Nat.{_+_, _^_, _≤_, _<_};
+ghost use mathlib.Core.List.{[], _∷_};
+ghost use Prim.Native.Nat.{_+_, _^_, _<_};
+ghost use Rattle.seed.specs.Pairs.{pairsOf};
+ghost use Rattle.seed.specs.Seed.{lastPair};
 ghost use Rattle.best.specs.Order.{Bounded};
-ghost use Rattle.best.specs.Stands.{nodesOf, pairsIn, standOf, masksOf, seedAt, Placed, Related};
+ghost use Rattle.best.specs.Stands.{nodesOf, standOf, masksOf, alone, seedAt, Listed, Lasts, LastAt, Placed, Related};
 
 // Whether a seed stands left of another, and whether under it.
 pub struct Stand {
@@ -36,26 +41,20 @@ fn nodes_of<'a>(nodes: &'a [u8], bounds: &[u16], i: usize) -> &'a [u8]
     &nodes[from..to]
 }
 
-// How seed i stands to seed j.
-fn stands_to(
-    lq: &[u8],
-    lt: &[u8],
-    qs: &[u8],
-    ts: &[u8],
-    bounds: &[u16],
-    i: usize,
-    j: usize,
-) -> Stand
-    requires { ⌜ Bounded (now qs) (now bounds) i ⌝ ∗ ⌜ Bounded (now ts) (now bounds) i ⌝ ∗ ⌜ Bounded (now qs) (now bounds) j ⌝ ∗ ⌜ Bounded (now ts) (now bounds) j ⌝ }
-    ensures { λ r. ⌜ r ≡ standOf (now (lq .entry)) (now (lt .entry)) (pairsIn (now (qs .entry)) (now (ts .entry)) (now (bounds .entry)) i) (pairsIn (now (qs .entry)) (now (ts .entry)) (now (bounds .entry)) j) ⌝ }
+// How a seed whose last pair is s stands to the seed of uq and ut, whose last pair is u.
+fn stands_to(lq: &[u8], lt: &[u8], uq: &[u8], ut: &[u8], u: Pair, s: Pair) -> Stand
+    requires { ⌜ u ≡ lastPair (pairsOf (now uq) (now ut)) ⌝ }
+    ensures { λ r. ⌜ r ≡ standOf (now (lq .entry)) (now (lt .entry)) (s ∷ []) (pairsOf (now (uq .entry)) (now (ut .entry))) ⌝ }
 {
-    let sq = nodes_of(qs, bounds, i);
-    let st = nodes_of(ts, bounds, i);
-    let uq = nodes_of(qs, bounds, j);
-    let ut = nodes_of(ts, bounds, j);
+    if (s.q as usize) < leaf_at(lq, u.q as usize) {
+        return Stand {
+            left: (s.t as usize) < leaf_at(lt, u.t as usize),
+            under: false,
+        };
+    }
     Stand {
-        left: left(lq, lt, sq, st, uq, ut),
-        under: under(lq, lt, sq, st, uq, ut),
+        left: false,
+        under: fits(lq, lt, uq, ut, s.q as usize, s.t as usize),
     }
 }
 
@@ -70,34 +69,34 @@ fn marked(mask: u64, on: bool, x: usize) -> u64
     mask
 }
 
-// How the seeds before place y of a list stand to the one there.
-fn masks_at(
-    lq: &[u8],
-    lt: &[u8],
-    qs: &[u8],
-    ts: &[u8],
-    bounds: &[u16],
-    numbers: &[u8],
-    y: usize,
-) -> Masks
-    requires { ⌜ Placed (now qs) (now ts) (now bounds) (now numbers) (y + 1) ⌝ }
-    ensures { λ r. ⌜ r ≡ masksOf (now (lq .entry)) (now (lt .entry)) (seedAt (now (qs .entry)) (now (ts .entry)) (now (bounds .entry)) (now (numbers .entry))) (seedAt (now (qs .entry)) (now (ts .entry)) (now (bounds .entry)) (now (numbers .entry)) y) y ⌝ }
+// The last node of each seed of a list.
+fn lasts(nodes: &[u8], bounds: &[u16], numbers: &[u8], count: usize) -> [u8; 64]
+    requires { ⌜ Listed (now nodes) (now bounds) (now numbers) count ⌝ }
+    ensures { λ r. ⌜ Lasts (now (nodes .entry)) (now (bounds .entry)) (now (numbers .entry)) count r ⌝ }
 {
+    let mut last = [0u8; 64];
+    let mut k = 0;
+    while k < count {
+        last[k] = last_of(nodes, bounds, numbers[k] as usize);
+        k += 1;
+    }
+    last
+}
+
+// How the seeds before place y stand to the seed of uq and ut, which is there. The last nodes of all are in rq and rt.
+fn masks_at(lq: &[u8], lt: &[u8], uq: &[u8], ut: &[u8], rq: &[u8], rt: &[u8], y: usize) -> Masks
+    requires { ⌜ LastAt (now uq) (now ut) (now rq) (now rt) y ⌝ }
+    ensures { λ r. ⌜ r ≡ masksOf (now (lq .entry)) (now (lt .entry)) (alone (now (rq .entry)) (now (rt .entry))) (pairsOf (now (uq .entry)) (now (ut .entry))) y ⌝ }
+{
+    let u = Pair { q: rq[y], t: rt[y] };
     let mut left_mask = 0;
     let mut under_mask = 0;
     let mut x = 0;
     while x < y {
-        let s = stands_to(
-            lq,
-            lt,
-            qs,
-            ts,
-            bounds,
-            numbers[x] as usize,
-            numbers[y] as usize,
-        );
-        left_mask = marked(left_mask, s.left, x);
-        under_mask = marked(under_mask, s.under, x);
+        let s = Pair { q: rq[x], t: rt[x] };
+        let stand = stands_to(lq, lt, uq, ut, u, s);
+        left_mask = marked(left_mask, stand.left, x);
+        under_mask = marked(under_mask, stand.under, x);
         x += 1;
     }
     Masks {
@@ -119,11 +118,16 @@ pub fn relate(
     requires { ⌜ Placed (now qs) (now ts) (now bounds) (now numbers) count ⌝ }
     ensures { λ r. ⌜ Related (now (lq .entry)) (now (lt .entry)) (seedAt (now (qs .entry)) (now (ts .entry)) (now (bounds .entry)) (now (numbers .entry))) count (r .lefts) (r .unders) ⌝ }
 {
+    let rq = lasts(qs, bounds, numbers, count);
+    let rt = lasts(ts, bounds, numbers, count);
     let mut lefts = [0u64; 64];
     let mut unders = [0u64; 64];
     let mut y = 0;
     while y < count {
-        let m = masks_at(lq, lt, qs, ts, bounds, numbers, y);
+        let i = numbers[y] as usize;
+        let uq = nodes_of(qs, bounds, i);
+        let ut = nodes_of(ts, bounds, i);
+        let m = masks_at(lq, lt, uq, ut, &rq[..], &rt[..], y);
         lefts[y] = m.left;
         unders[y] = m.under;
         y += 1;

@@ -1,16 +1,16 @@
 // The table by which the best chain is found: for each item the best chain under it, and a row of the items left of one another.
 use super::keys::Stored;
+use super::keys::better_of;
 use super::keys::bit;
 use super::keys::clipped;
-use super::keys::consider;
-use super::keys::has;
 use super::keys::joined;
 use super::keys::key_at;
+use super::keys::lowest;
 use super::keys::put;
+use super::keys::without_lowest;
 ghost use mathlib.Core.Path.{_≡_};
 ghost use mathlib.Core.Bool.{true};
 ghost use Prim.Native.Nat.{_≤_};
-ghost use lib.Dec.{T};
 ghost use lib.ListN.{length};
 ghost use Rattle.optimum.specs.Key.{inMask};
 ghost use Rattle.optimum.specs.Table.{bestOf, maxBelow, stored};
@@ -31,27 +31,27 @@ fn best_in(scratch: &[u64], mask: u64, n: usize) -> Stored
     ensures { λ r. ⌜ stored (r .total) (r .mask) ≡ maxBelow (inMask mask) (spec.keyAt (now (scratch .entry)) spec.rows) n ⌝ }
 {
     let mut best = Stored { total: 0, mask: 0 };
-    let mut k = 0;
-    while k < n {
-        let on = has(mask, k);
+    let mut rest = mask;
+    while rest != 0 {
+        let k = lowest(rest);
+        if n <= k {
+            return best;
+        }
         let key = key_at(scratch, ROWS, k);
-        best = consider(best, on, key);
-        k += 1;
+        best = better_of(best, key);
+        rest = without_lowest(rest, k);
     }
     best
 }
 
-// The entry of item k in the row of the items that a mask has; the mask `left` has those left of it.
+// The entry of item k in a row of items that a mask has; the mask `left` has those left of it.
 fn entry(scratch: &[u64], row: u64, left: u64, k: usize) -> Stored
     requires { ⌜ spec.EntryRoom (now scratch) row left k ⌝ }
-    ensures { λ r. ⌜ (T (inMask row k) → stored (r .total) (r .mask) ≡ spec.entryOf (now (scratch .entry)) row left k) ⌝ }
+    ensures { λ r. ⌜ stored (r .total) (r .mask) ≡ spec.entryOf (now (scratch .entry)) row left k ⌝ }
 {
-    if has(row, k) {
-        let best = best_in(scratch, row & left, k);
-        let key = key_at(scratch, ITEMS, k);
-        return joined(key, best);
-    }
-    Stored { total: 0, mask: 0 }
+    let best = best_in(scratch, row & left, k);
+    let key = key_at(scratch, ITEMS, k);
+    joined(key, best)
 }
 
 // Fills the row of the first n items that a mask has.
@@ -59,11 +59,15 @@ fn fill_row(scratch: &mut [u64], lefts: &[u64], row: u64, n: usize)
     requires { ⌜ spec.RowRoom (now scratch) (now lefts) row n ⌝ }
     ensures { λ r. ⌜ spec.RowFilled (now (scratch .entry)) (now (lefts .entry)) row n (now (scratch .exit)) ⌝ }
 {
-    let mut k = 0;
-    while k < n {
+    let mut rest = row;
+    while rest != 0 {
+        let k = lowest(rest);
+        if n <= k {
+            return;
+        }
         let key = entry(scratch, row, lefts[k], k);
         put(scratch, ROWS, k, key);
-        k += 1;
+        rest = without_lowest(rest, k);
     }
 }
 

@@ -1,5 +1,5 @@
 -- Masks: their bits are the numbers of the set, and the smaller of two is that of the set that wins by the tie rule. Assumes nothing.
-use mathlib.Core.Path.{_≡_, refl, sym, ap, subst, _∙_}
+use mathlib.Core.Path.{_≡_, refl, sym, ap, subst, _∙_, fun-ext}
 use mathlib.Core.Bool.{Bool, true, false, not, cond}
 use mathlib.Core.Logic.{_⊎_, inl, inr}
 use Prim.Native.Nat.{ℕ, zero, suc, _+_, _*_, _^_, _/_, _%_, _≤_, _<_}
@@ -101,3 +101,25 @@ mask-bit f n below i = go (is (ltb i n))
     go : Is (ltb i n) → eqb (maskOf f n / 2 ^ i % 2) 1 ≡ f i
     go (yes t) = ap (λ x. eqb x 1) (mask-digit f n i (ltb→lt i n t)) ∙ digit-is (f i)
     go (no t) = let h = nltb→le i n t in ap (λ x. eqb (x % 2) 1) (none h) ∙ sym (T-neq (not-T (f i) (λ s. omega (arith, below i s))))
+
+-- A number is the mask of its bits.
+digit-of : (d : ℕ) → d < 2 → digit (eqb d 1) ≡ d
+digit-of zero h = refl
+digit-of (suc zero) h = refl
+digit-of (suc (suc d)) h = absurd (omega arith)
+
+bit-above : (m i : ℕ) → inMask (m / 2) i ≡ inMask m (suc i)
+unfolding inMask
+bit-above m i = ap (λ x. eqb (x % 2) 1) (div-div-eq-div-mul m 2 (2 ^ i) ∙ ap (λ x. m / x) (sym (pow-succ' 2 i)))
+
+pub mask-self : (n m : ℕ) → m < 2 ^ n → m ≡ maskOf (inMask m) n
+unfolding maskOf inMask
+mask-self zero m h = omega arith
+mask-self (suc n) m h =
+    omega (
+      arith,
+      digit-of (m / 1 % 2) (omega arith),
+      mask-self n (m / 2) (omega (arith, pow-succ' 2 n)),
+      ap (λ f. maskOf f n) (fun-ext (bit-above m)),
+      mask-low (inMask m) n,
+    )

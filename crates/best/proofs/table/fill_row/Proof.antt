@@ -1,47 +1,56 @@
--- `best::table::fill_row` meets its contract. Assumes nothing.
-use Prim.Native.Nat.{_≤_, _-_}
-use mathlib.Core.Path.{_≡_}
+-- `best::table::fill_row` meets its contract: the members are taken off from the lowest on. Assumes nothing.
+use Prim.Native.Nat.{ℕ, _+_, _≤_}
 use native.Mathlib.Omega.{arith}
 use Rattle.best.specs.Table.{RowFilled}
-use Rattle.best.proofs.Rows.{row-start, row-room, row-turn}
+use Rattle.best.proofs.Members.{Left, left-start, left-none, left-past, left-has, left-less, left-next}
+use Rattle.best.proofs.Rows.{row-start, row-room, row-turn, row-past}
 use Rattle.best.proofs.table.fill_row.Statement.{statement}
 use Rattle.best.proofs.table.fill_row.Tie as tie
 
 abbrev Inv-loop : tie.InvT-loop
-Inv-loop scratch₀ lefts row n k₀ scratch k = (k ≤ n) × RowFilled scratch₀ lefts row k scratch
+Inv-loop scratch₀ lefts row n rest₀ scratch rest = (k : ℕ) × (k ≤ n) × Left row k rest × RowFilled scratch₀ lefts row k scratch
 
 abbrev μ-loop : tie.MeasureT-loop
-μ-loop scratch₀ lefts row n k₀ scratch k = n - k
+μ-loop scratch₀ lefts row n rest₀ scratch rest = rest
 
 loop-holds : tie.Need-loop-holds Inv-loop μ-loop
-loop-holds c = (omega arith, row-start _ _ _)
+loop-holds c = (0, omega arith, left-start _ (c .before .before .fits .row .fits), row-start _ _ _)
 
-mul-entry : tie.Need-mul-entry Inv-loop μ-loop
-mul-entry c = omega arith
-
-shared-slice-read-entry : tie.Need-shared-slice-read-entry Inv-loop μ-loop
-shared-slice-read-entry c = omega arith
-
-entry-requires : tie.Need-entry-requires Inv-loop μ-loop
-entry-requires c κs = row-room _ _ _ _ (c .before .before .before .before .before .before .pre) _ (c .before .before .loop-test .taken) _ (c .before .before .before .loop .inv .1)
-
-put-requires : tie.Need-put-requires Inv-loop μ-loop
-put-requires c κs = omega arith
-
-add-k : tie.Need-add-k Inv-loop μ-loop
-add-k c = omega arith
-
-loop-less : tie.Need-loop-less Inv-loop μ-loop
-loop-less c = omega arith
-
-loop-again : tie.Need-loop-again Inv-loop μ-loop
-loop-again c = (omega arith, row-turn _ _ _ _ (c .before .before .before .before .before .before .before .before .before .before .before .pre) _ (c .before .before .before .before .before .before .before .loop-test .taken) _ (c .before .before .before .before .before .before .before .before .loop .inv .1) _ _ _ (c .before .before .before .before .entry .ensures) (c .before .before .put .ensures))
+lowest-requires : tie.Need-lowest-requires Inv-loop μ-loop
+lowest-requires c κs = c .loop-test .taken
 
 same-length : tie.Need-same-length Inv-loop μ-loop
-same-length c = omega arith
+same-length c = c .before .before .before .loop .inv .3 .long
 
 returns : tie.Need-returns Inv-loop μ-loop
-returns c = let x : (c .before .loop .k) ≡ (c .before .before .before .before .args .n) = omega arith in rw x at (c .before .loop .inv .1)
+returns c = row-past _ _ _ _ _ _ (c .before .before .before .loop .inv .3) (λ j a b. left-past (c .before .before .before .loop .inv .2) (c .before .lowest .ensures) j a (omega arith))
+
+mul-entry : tie.Need-mul-entry Inv-loop μ-loop
+mul-entry c = omega (arith, c .before .before .lowest .ensures .few)
+
+shared-slice-read-entry : tie.Need-shared-slice-read-entry Inv-loop μ-loop
+shared-slice-read-entry c = omega (arith, c .before .before .if1 .left)
+
+entry-requires : tie.Need-entry-requires Inv-loop μ-loop
+entry-requires c κs = row-room _ _ _ _ (c .before .before .before .before .before .before .before .before .pre) _ (omega (arith, c .before .before .if1 .left)) _ (row-past _ _ _ _ _ _ (c .before .before .before .before .before .loop .inv .3) (left-past (c .before .before .before .before .before .loop .inv .2) (c .before .before .before .lowest .ensures))) (rw (left-has (c .before .before .before .before .before .loop .inv .2) (c .before .before .before .lowest .ensures)) tt)
+
+put-requires : tie.Need-put-requires Inv-loop μ-loop
+put-requires c κs = omega (arith, c .before .before .before .before .before .lowest .ensures .few, c .before .before .before .before .before .before .before .loop .inv .3 .long, c .before .before .before .before .before .before .before .before .before .before .pre .long)
+
+without-lowest-requires : tie.Need-without-lowest-requires Inv-loop μ-loop
+without-lowest-requires c κs = (c .before .before .before .before .before .before .before .before .before .loop-test .taken, c .before .before .before .before .before .before .before .before .lowest .ensures)
+
+loop-less : tie.Need-loop-less Inv-loop μ-loop
+loop-less c = rw (c .without-lowest .ensures) (left-less (c .before .before .before .before .before .before .before .before .before .before .before .loop .inv .2) (c .before .before .before .before .before .before .before .before .before .lowest .ensures))
+
+loop-again : tie.Need-loop-again Inv-loop μ-loop
+loop-again c = (c .before .before .before .before .before .before .before .before .before .lowest .result + 1, omega (arith, c .before .before .before .before .before .before .before .before .if1 .left), rw (c .without-lowest .ensures) (left-next (c .before .before .before .before .before .before .before .before .before .before .before .loop .inv .2) (c .before .before .before .before .before .before .before .before .before .lowest .ensures)), row-turn _ _ _ _ (c .before .before .before .before .before .before .before .before .before .before .before .before .before .before .pre) _ (omega (arith, c .before .before .before .before .before .before .before .before .if1 .left)) _ (row-past _ _ _ _ _ _ (c .before .before .before .before .before .before .before .before .before .before .before .loop .inv .3) (left-past (c .before .before .before .before .before .before .before .before .before .before .before .loop .inv .2) (c .before .before .before .before .before .before .before .before .before .lowest .ensures))) _ _ _ (c .before .before .before .before .before .entry .ensures) (c .before .before .before .put .ensures))
+
+same-length-2 : tie.Need-same-length-2 Inv-loop μ-loop
+same-length-2 c = c .before .loop .inv .3 .long
+
+returns-2 : tie.Need-returns-2 Inv-loop μ-loop
+returns-2 c = row-past _ _ _ _ _ _ (c .before .loop .inv .3) (λ j a b. left-none (c .before .loop .inv .2) (c .loop-test .left) j a (omega (arith, c .before .before .before .before .pre .few)))
 
 pub fill-row-spec : {M : Type 1} → statement M
 fill-row-spec =
@@ -50,12 +59,15 @@ fill-row-spec =
     Inv-loop
     μ-loop
     loop-holds
+    lowest-requires
+    same-length
+    returns
     mul-entry
     shared-slice-read-entry
     entry-requires
     put-requires
-    add-k
+    without-lowest-requires
     loop-less
     loop-again
-    same-length
-    returns)
+    same-length-2
+    returns-2)
