@@ -35,7 +35,7 @@ use Rattle.chain.proofs.Storing.{pairs-kept, pairs-new, laid-new}
 use Rattle.chain.proofs.Changing.{does-accepted, does-refused}
 
 -- The pairs that the table has in all are those of the store.
-count-more : (rows : List Row) (r : Row) → pairCount (rows ++ r ∷ []) ≡ pairCount rows + length (r .pairs)
+pub count-more : (rows : List Row) (r : Row) → pairCount (rows ++ r ∷ []) ≡ pairCount rows + length (r .pairs)
 unfolding pairCount
 count-more [] r = omega arith
 count-more (x ∷ rows) r = omega (arith, count-more rows r)

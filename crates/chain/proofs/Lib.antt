@@ -10,4 +10,7 @@ pub mod Looks
 pub mod Histories
 pub mod Demand
 pub mod Decks
+pub mod Grounds
+pub mod OpeningGrounds
+pub mod CallGrounds
 mod Examples

@@ -5,3 +5,4 @@ pub mod View
 pub mod Opening
 pub mod Looking
 pub mod Reached
+pub mod Grounds

@@ -33,7 +33,7 @@ ghost use Rattle.seed.specs.Pairs.{pairsOf};
 ghost use Rattle.seed.specs.Store.{pairsAt};
 ghost use Rattle.deck.specs.Handed.{Writes};
 ghost use Rattle.chain.specs.Opening.{start, opening, deckOpening, Opens};
-ghost use Rattle.chain.specs.State.{addAnswer, add, numberGiven, rescore, moveTo, withdraw, bringBack};
+ghost use Rattle.chain.specs.State.{add, numberGiven, rescore, moveTo, withdraw, bringBack};
 ghost use Rattle.chain.specs.Looking.{Chains, Lists, deckRows};
 ghost use Rattle.chain.specs.View.{view, Sound, Does};
 

@@ -1,7 +1,8 @@
 -- `chain::Session::areas` meets its contract. Assumes nothing.
 use mathlib.Core.Path.{sym, _∙_}
+use native.Mathlib.Omega.{arith}
 use borrow.Author.Tests.{not-true, not-false}
-use Rattle.chain.proofs.Looks.{known, place, lists, lists-not}
+use Rattle.chain.proofs.Looks.{known, lists, lists-not}
 use borrow.Author.Needs.{needs}
 use Rattle.chain.proofs.Session.areas.Statement.{statement}
 use Rattle.chain.proofs.Session.areas.Tie as tie
@@ -13,10 +14,10 @@ returns : tie.Need-returns
 returns c = lists-not _ (c .before .before .before .pre) _ (sym (c .before .given-out .ensures) ∙ not-true _ (c .if1 .taken)) _
 
 sub-areas-at : tie.Need-sub-areas-at
-sub-areas-at c = known _ (c .before .before .before .pre) _ (sym (c .before .given-out .ensures) ∙ not-false _ (c .if1 .left)) .low
+sub-areas-at c = omega (arith, known _ (c .before .before .before .pre) _ (sym (c .before .given-out .ensures) ∙ not-false _ (c .if1 .left)))
 
 areas-at-requires : tie.Need-areas-at-requires
-areas-at-requires c κs = ((c .before .before .before .before .pre), place _ (c .before .before .before .before .pre) _ (sym (c .before .before .given-out .ensures) ∙ not-false _ (c .before .if1 .left)))
+areas-at-requires c κs = ((c .before .before .before .before .pre), omega (arith, known _ (c .before .before .before .before .pre) _ (sym (c .before .before .given-out .ensures) ∙ not-false _ (c .before .if1 .left))))
 
 same-length : tie.Need-same-length
 same-length c = search needs
