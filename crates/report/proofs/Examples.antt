@@ -1,4 +1,4 @@
--- Printed lines and parts of inputs, computed from the definitions. Assumes nothing.
+-- Printed lines, parts of inputs and judged memory, computed from the definitions. Assumes nothing.
 use mathlib.Core.Path.{_≡_, refl}
 use mathlib.Core.Bool.{true, false}
 use mathlib.Core.List.{List, [], _∷_}
@@ -6,11 +6,12 @@ use Prim.Native.Nat.{ℕ}
 use Prim.Native.String.{String}
 use lib.ListN.{replicate}
 use Rattle.answer.specs.Answer.{said}
-use Rattle.answer.specs.declared.Ground.the-variants.{TextLength, NeverClosed, PairNeverReached, BorderUnpaired}
+use Rattle.answer.specs.declared.Ground.the-variants.{TextLength, NeverClosed, PairNeverReached, BorderUnpaired, ScratchShort, OutputShort}
 use Rattle.answer.specs.declared.Place.the-variants.{ByteInQ, ByteInT, Seed, Nothing}
 use Rattle.answer.specs.declared.Answer.the-variants.{Accepted, Refused}
 use Rattle.report.specs.Lines.{bytes, digits, decimal, scoreLine, member, members, chainLine, resultLines, placed, refusalLine}
 use Rattle.report.specs.Input.{readBytes, ahead, behind, textQ, textT, deckBytes}
+use Rattle.report.specs.Report.{shortage}
 
 -- Numbers in decimal.
 pub numbers-written : decimal 0 ∷ decimal 10 ∷ decimal 909 ∷ decimal 18446744073709551615 ∷ [] ≡ bytes "0" ∷ bytes "10" ∷ bytes "909" ∷ bytes "18446744073709551615" ∷ []
@@ -43,3 +44,8 @@ pub inputs-parted :
     ≡ (bytes "(.)" ∷ bytes ".." ∷ bytes "a\n" ∷ []) ∷ (bytes "(.)" ∷ bytes ".." ∷ [] ∷ []) ∷ (bytes "(.)" ∷ [] ∷ [] ∷ []) ∷ []
 unfolding readBytes ahead behind
 inputs-parted = refl
+
+-- Lent memory for lines of 18 bytes: a number of scratch too few, a byte of output too few, and just enough.
+pub rooms-judged : shortage 4095 17 18 ∷ shortage 4096 17 18 ∷ shortage 4096 18 18 ∷ [] ≡ Refused ScratchShort Nothing ∷ Refused OutputShort Nothing ∷ Accepted ∷ []
+unfolding shortage
+rooms-judged = refl

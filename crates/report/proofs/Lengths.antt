@@ -1,4 +1,4 @@
--- Every printed line fits a text, whatever its numbers. Assumes nothing.
+-- How long the printed lines are at most, whatever their numbers. Assumes nothing.
 use mathlib.Core.Path.{_≡_}
 use mathlib.Core.Bool.{Bool, true, false, cond}
 use mathlib.Core.List.{List, [], _∷_, _++_}

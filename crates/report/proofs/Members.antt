@@ -13,10 +13,10 @@ module _ (chain : List Bool) (i : ℕ) where
   abbrev pub membersFrom : List ℕ
   membersFrom = members (i + 1) (drop i chain)
 
-  pub left-more : i < length chain → membersFrom ≡ member (i + 1) (getD chain i false) ++ members (i + 1 + 1) (drop (i + 1) chain)
+  pub members-more : i < length chain → membersFrom ≡ member (i + 1) (getD chain i false) ++ members (i + 1 + 1) (drop (i + 1) chain)
   unfolding members
-  left-more some = rw (drop-cons chain i false some, add-one i, add-one (suc i))
+  members-more some = rw (drop-cons chain i false some, add-one i, add-one (suc i))
 
-  pub left-none : i ≡ length chain → membersFrom ≡ []
+  pub members-none : i ≡ length chain → membersFrom ≡ []
   unfolding members
-  left-none all = rw (all, drop-length)
+  members-none all = rw (all, drop-length)

@@ -1,48 +1,75 @@
--- A line put over the start of an output, byte by byte, and the two ways in which a text is put. Assumes nothing.
-use mathlib.Core.Path.{_≡_, ap, _∙_}
-use mathlib.Core.List.{List, _++_}
-use Prim.Native.Nat.{ℕ, _+_, _≤_, _<_}
-use native.Mathlib.Nat.{zero-add}
+-- Bytes put one after another from a place of an output on. Assumes nothing.
+use mathlib.Core.Path.{_≡_, sym, ap, ap₂, _∙_}
+use mathlib.Core.List.{List, [], _∷_, _++_}
+use Prim.Native.Nat.{ℕ, suc, _+_, _≤_, _<_}
+use native.Mathlib.Nat.{add-zero, add-suc, suc-add, zero-add}
 use native.Mathlib.Numerals.{add-one}
 use native.Mathlib.Omega.{arith}
-use lib.ListN.{length, getD, set, take, drop, length-append, length-take, length-drop}
-use lib.Seq.{paste-suc, take-length}
-use borrow.Author.Tests.{lt-ltb, le-ltb}
-use Rattle.answer.specs.declared.Ground.the-variants.{OutputShort}
-use Rattle.answer.specs.declared.Place.the-variants.{Nothing}
-use Rattle.answer.specs.declared.Answer.the-variants.{Accepted, Refused}
-use Rattle.report.specs.Output.{putAnswer, putOver, Put}
+use lib.ListN.{length, getD, drop, length-append}
+use lib.Seq.{sets, sets-eq, length-sets, drop-cons}
+use Rattle.report.specs.Output.{Room, Puts}
 
-module _ (line output : List ℕ) where
-  -- The output with the line's first i bytes over its own.
-  abbrev pub over : ℕ → List ℕ
-  over i = take i line ++ drop i output
+sets-append : (l : List ℕ) (i : ℕ) (a b : List ℕ) → sets (sets l i a) (i + length a) b ≡ sets l i (a ++ b)
+sets-append l i [] b = rw add-zero
+sets-append l i (x ∷ a) b = rw (add-suc, ← suc-add i (length a)) (sets-append _ (suc i) a b)
 
-  module _ (fits : length line ≤ length output) where
-    pub length-over : (i : ℕ) → i ≤ length line → length (over i) ≡ length output
-    length-over i some = simp (length-append, length-take, length-drop) (omega arith)
+-- A list put in two steps: the room for each, and what both put together.
+pub room-first : {out : List ℕ} {at : ℕ} {s a : List ℕ} (b : List ℕ) → s ≡ a ++ b → Room out at s → Room out at a
+room-first {a = a} b split room = record { fits = omega (arith, ap length split, length-append a b) }
 
-    pub over-more : (i : ℕ) {now : List ℕ} → i < length line → now ≡ over i → set now i (getD line i 0) ≡ over (i + 1)
-    over-more i some is =
-        let first : 0 + i < length output = omega arith in
-        ap (λ (l : List ℕ). set l i (getD line i 0)) is
-        ∙ rw add-one (rw (zero-add, zero-add) at (paste-suc output 0 line i 0 first some))
+module _ {out : List ℕ} {at : ℕ} {a out′ : List ℕ} {at′ : ℕ} (put : Puts out at a out′ at′) where
+  pub puts-length : length out′ ≡ length out
+  puts-length = ap length (put .output) ∙ length-sets out at a
 
-    pub put-fits : {after : List ℕ} → after ≡ line ++ drop (length line) output → Put line output after Accepted
-    unfolding putAnswer putOver
-    put-fits is = record {
-      answer = rw (le-ltb (length output) (length line) fits);
-      output = rw (le-ltb (length output) (length line) fits) is;
+  module _ {s b : List ℕ} (split : s ≡ a ++ b) where
+    pub room-last : Room out at s → Room out′ at′ b
+    room-last room = record { fits = omega (arith, ap length split, length-append a b, puts-length) }
+
+    pub puts-both : {out″ : List ℕ} {at″ : ℕ} → Puts out′ at′ b out″ at″ → Puts out at s out″ at″
+    puts-both then = record {
+      output =
+          then .output
+          ∙ ap₂ (λ (l : List ℕ) (n : ℕ). sets l n b) (put .output) (put .place)
+          ∙ sets-append out at a b
+          ∙ ap (sets out at) (sym split);
+      place = omega (arith, ap length split, length-append a b);
     }
 
-  pub over-all : (i : ℕ) {now : List ℕ} → i ≤ length line → length line ≤ i → now ≡ over i → now ≡ line ++ drop (length line) output
-  over-all i some all is =
-      let whole : i ≡ length line = omega arith in
-      is ∙ ap over whole ∙ ap (λ (l : List ℕ). l ++ drop (length line) output) (take-length line)
+pub puts-none : {out : List ℕ} {at : ℕ} {s : List ℕ} → s ≡ [] → Puts out at s out at
+puts-none {out} {at} none = record { output = ap (sets out at) (sym none); place = omega (arith, ap length none) }
 
-  pub put-short : length output < length line → Put line output output (Refused OutputShort Nothing)
-  unfolding putAnswer putOver
-  put-short short = record {
-    answer = rw (lt-ltb (length output) (length line) short);
-    output = rw (lt-ltb (length output) (length line) short);
+-- Of the whole s, this rest is still to be put.
+pub record Left (out : List ℕ) (at : ℕ) (s out′ : List ℕ) (at′ : ℕ) (rest : List ℕ) : Type 0 where
+  pub output : sets out′ at′ rest ≡ sets out at s
+  pub place : at′ + length rest ≡ at + length s
+
+module _ {out : List ℕ} {at : ℕ} {s out′ : List ℕ} {at′ : ℕ} {rest : List ℕ} (left : Left out at s out′ at′ rest) where
+  pub left-length : length out′ ≡ length out
+  left-length = omega (arith, ap length (left .output), length-sets out at s, length-sets out′ at′ rest)
+
+  pub left-room : Room out at s → Room out′ at′ rest
+  left-room room = record { fits = omega (arith, left-length) }
+
+  pub left-less : {a b out″ : List ℕ} {at″ : ℕ} → rest ≡ a ++ b → Puts out′ at′ a out″ at″ → Left out at s out″ at″ b
+  left-less {a} {b} split put = record {
+    output =
+        ap₂ (λ (l : List ℕ) (n : ℕ). sets l n b) (put .output) (put .place)
+        ∙ sets-append out′ at′ a b
+        ∙ ap (sets out′ at′) (sym split)
+        ∙ left .output;
+    place = omega (arith, ap length split, length-append a b);
   }
+
+  pub left-none : rest ≡ [] → Puts out at s out′ at′
+  left-none none = record {
+    output = ap (sets out′ at′) (sym none) ∙ left .output;
+    place = omega (arith, ap length none);
+  }
+
+-- A word from place i on is its byte there and what comes after.
+pub word-more : (word : List ℕ) (i : ℕ) → i < length word → drop i word ≡ (getD word i 0 ∷ []) ++ drop (i + 1) word
+word-more word i some = rw (add-one, drop-cons word i 0 some)
+
+-- Bytes put to the start of an output that has room for them.
+pub puts-first : {out s out′ : List ℕ} {n : ℕ} → length s ≤ length out → Puts out 0 s out′ n → (out′ ≡ s ++ drop (length s) out) × (n ≡ length s)
+puts-first {out} {s} fits put = (put .output ∙ sets-eq s out 0 (omega arith) ∙ rw zero-add, omega arith)

@@ -23,14 +23,13 @@ use Rattle.chain.specs.Looking.{bestChain, Chains}
 use Rattle.chain.specs.declared.Session.{Session}
 use Rattle.report.specs.Lines.{resultLines, refusalLine}
 use Rattle.report.specs.Input.{textQ, textT, Parted}
-use Rattle.report.specs.Output.{textOf, written, putOver, Put}
-use Rattle.report.specs.Report.{outcomeOf, linesBy, linesOf, zeroedBy, scratchLeft, shortage, reportedBy, scratchBy, outputBy, Reports}
+use Rattle.report.specs.Output.{Room, Puts}
+use Rattle.report.specs.Report.{outcomeOf, linesBy, linesOf, zeroedBy, scratchLeft, shortage, roomAnswer, reportedBy, scratchBy, outputBy, reportOf, Reports}
 use Rattle.report.specs.declared.Reported.{Reported}
 use Rattle.report.specs.declared.input.Parts.{Parts}
 use Rattle.report.specs.declared.input.Part.{Part}
-use Rattle.report.specs.declared.text.Text.{Text}
 use Rattle.report.proofs.Lengths.{length-refusal, length-result}
-use Rattle.report.proofs.Texts.{text-within, text-holds}
+use Rattle.report.proofs.Outputs.{puts-first}
 
 -- Two answers are never equal if one accepts and the other refuses.
 pub clash : {A : Type 0} → _≡_ {A = ℕ} 0 1 → A
@@ -52,27 +51,35 @@ room-enough : (s : State) (room : ℕ) → scratchNeeded ≤ room → bestChain 
 unfolding bestChain bestOf
 room-enough s room h = rw (le-ltb room scratchNeeded h)
 
+-- The lines are those of the best chain, or of the refusal, and the scratch is left so.
 module _ (input before : List ℕ) (a : Answer) (s : Session) (o : Opens (outcomeOf input) a s) where
-  pub lines-accepted : a ≡ Accepted → scratchNeeded ≤ length before → (after : List ℕ) (r : Best) → Chains (view s) before after r → (text : Text) → text ≡ textOf (resultLines (r .total) (r .chain)) → (text ≡ textOf (linesOf input)) × (after ≡ scratchLeft input before)
+  pub lines-accepted : a ≡ Accepted → scratchNeeded ≤ length before → (after : List ℕ) (r : Best) → Chains (view s) before after r → (resultLines (r .total) (r .chain) ≡ linesOf input) × (after ≡ scratchLeft input before)
   unfolding linesOf scratchLeft scratchAfter
-  lines-accepted ok room after r c text e =
+  lines-accepted ok room after r c =
       let same : r ≡ bestChain (outcomeOf input .state) scratchNeeded = c .answers ∙ room-enough (view s) (length before) room ∙ ap (λ (x : State). bestChain x scratchNeeded) (o .leaves) in
       let yes-answer : Accepted ≡ outcomeOf input .answer = sym ok ∙ o .answers in (
-        e
-            ∙ ap (λ (x : Best). textOf (resultLines (x .total) (x .chain))) same
-            ∙ ap (λ (x : Answer). textOf (linesBy x (outcomeOf input .state))) yes-answer,
+        ap (λ (x : Best). resultLines (x .total) (x .chain)) same
+            ∙ ap (λ (x : Answer). linesBy x (outcomeOf input .state)) yes-answer,
         c .scratch
             ∙ ap (λ (b : Bool). cond b before (replicate (length before) 0)) (le-ltb (length before) scratchNeeded room)
             ∙ ap (λ (x : Answer). zeroedBy x before) yes-answer,
       )
 
-  pub lines-refused : (a ≡ Accepted → ⊥) → (text : Text) → text ≡ textOf (refusalLine (said a)) → (text ≡ textOf (linesOf input)) × (before ≡ scratchLeft input before)
+  pub lines-refused : (a ≡ Accepted → ⊥) → (refusalLine (said a) ≡ linesOf input) × (before ≡ scratchLeft input before)
   unfolding linesOf scratchLeft
-  lines-refused denied text e = go (outcomeOf input .answer) (o .answers)
+  lines-refused denied = go (outcomeOf input .answer) (o .answers)
     where
-      go : (x : Answer) → a ≡ x → (text ≡ textOf (linesBy x (outcomeOf input .state))) × (before ≡ zeroedBy x before)
+      go : (x : Answer) → a ≡ x → (refusalLine (said a) ≡ linesBy x (outcomeOf input .state)) × (before ≡ zeroedBy x before)
       go Accepted f = absurd (denied f)
-      go (Refused g p) f = (e ∙ ap (λ (y : Answer). textOf (refusalLine (said y))) f, refl)
+      go (Refused g p) f = (ap (λ (y : Answer). refusalLine (said y)) f, refl)
+
+-- A line that is the lines of the input: it has room where they have, and where it is put they are.
+module _ (input : List ℕ) {line : List ℕ} (is : line ≡ linesOf input) where
+  pub lines-room : {out : List ℕ} → length (linesOf input) ≤ length out → Room out 0 line
+  lines-room fits = record { fits = omega (arith, ap length is) }
+
+  pub lines-put : {out after : List ℕ} {n : ℕ} → Puts out 0 line after n → Puts out 0 (linesOf input) after n
+  lines-put {out} {after} {n} put = subst (λ (l : List ℕ). Puts out 0 l after n) is put
 
 -- A chain has a flag for each of 64 numbers.
 whole : (s : State) → length (bestChain s scratchNeeded .chain) ≡ 64
@@ -80,7 +87,7 @@ unfolding bestChain bestOf
 whole s = length-tab 64 _
 
 -- Every report fits 256 bytes.
-lines-short : (input : List ℕ) → length (linesOf input) ≤ 256
+pub lines-short : (input : List ℕ) → length (linesOf input) ≤ 256
 unfolding linesOf
 lines-short input = go (outcomeOf input .answer)
   where
@@ -88,27 +95,25 @@ lines-short input = go (outcomeOf input .answer)
     go Accepted = omega (arith, length-result (bestChain (outcomeOf input .state) scratchNeeded .total) (bestChain (outcomeOf input .state) scratchNeeded .chain) (whole (outcomeOf input .state)))
     go (Refused g p) = omega (arith, length-refusal (said (Refused g p)))
 
-pub lines-within : (input : List ℕ) (text : Text) → text ≡ textOf (linesOf input) → text .length ≤ length (text .bytes)
-lines-within input text e = text-within (linesOf input) e
-
 -- What lent memory that is long enough is known to be.
 not-given : (b : Bool) (g : Ground) (p : Place) (later : Answer) → given b g p later ≡ Accepted → (b ≡ false) × (later ≡ Accepted)
 not-given true g p later e = clash (cc)
 not-given false g p later e = (refl, e)
 
-pub scratch-long : (scratch out : ℕ) → shortage scratch out ≡ Accepted → scratchNeeded ≤ scratch
-unfolding shortage
-scratch-long scratch out e = ltb-false scratch scratchNeeded (not-given (ltb scratch scratchNeeded) _ _ _ e .0)
+module _ (scratch out needed : ℕ) (enough : shortage scratch out needed ≡ Accepted) where
+  pub scratch-long : scratchNeeded ≤ scratch
+  unfolding shortage
+  scratch-long = ltb-false scratch scratchNeeded (not-given (ltb scratch scratchNeeded) _ _ _ enough .0)
 
-out-long : (scratch out : ℕ) → shortage scratch out ≡ Accepted → 256 ≤ out
-unfolding shortage
-out-long scratch out e = ltb-false out 256 (not-given (ltb out 256) _ _ _ (not-given (ltb scratch scratchNeeded) _ _ _ e .1) .0)
+  pub out-long : needed ≤ out
+  unfolding shortage
+  out-long = ltb-false out needed (not-given (ltb out needed) _ _ _ (not-given (ltb scratch scratchNeeded) _ _ _ enough .1) .0)
 
-module _ (input scratch out : List ℕ) (a : Answer) (judged : a ≡ shortage (length scratch) (length out)) where
+module _ (input scratch out : List ℕ) (a : Answer) (judged : a ≡ roomAnswer input scratch out) where
   pub reports-not : (a ≡ Accepted → ⊥) → Reports input scratch scratch out out (record { answer = a; length = 0 })
-  reports-not denied = go (shortage (length scratch) (length out)) refl judged
+  reports-not denied = go (roomAnswer input scratch out) refl judged
     where
-      go : (x : Answer) → shortage (length scratch) (length out) ≡ x → a ≡ x → Reports input scratch scratch out out (record { answer = a; length = 0 })
+      go : (x : Answer) → roomAnswer input scratch out ≡ x → a ≡ x → Reports input scratch scratch out out (record { answer = a; length = 0 })
       go Accepted f g = absurd (denied g)
       go (Refused g p) f e = record {
         answers = ap (λ (y : Answer). record { answer = y; length = 0 }) e ∙ ap (λ (y : Answer). reportedBy y (linesOf input)) (sym f);
@@ -116,30 +121,25 @@ module _ (input scratch out : List ℕ) (a : Answer) (judged : a ≡ shortage (l
         output-left = ap (λ (y : Answer). outputBy y (linesOf input) out) (sym f);
       }
 
-  pub reports : a ≡ Accepted → (left after : List ℕ) (text : Text) → text ≡ textOf (linesOf input) → left ≡ scratchLeft input scratch → (r : Answer) → Put (written text) out after r → Reports input scratch left out after (record { answer = a; length = text .length })
-  unfolding putOver shortage
-  reports ok left after text e f r w =
-      let yes-room : shortage (length scratch) (length out) ≡ Accepted = sym judged ∙ ok in
-      let long : 256 ≤ length out = out-long (length scratch) (length out) yes-room in
+  pub reports : a ≡ Accepted → (left after : List ℕ) (n : ℕ) → Puts out 0 (linesOf input) after n → left ≡ scratchLeft input scratch → Reports input scratch left out after (record { answer = a; length = n })
+  reports ok left after n put f =
+      let yes-room : roomAnswer input scratch out ≡ Accepted = sym judged ∙ ok in
+      let first : (after ≡ linesOf input ++ drop (length (linesOf input)) out) × (n ≡ length (linesOf input)) = puts-first (out-long (length scratch) (length out) (length (linesOf input)) yes-room) put in
       record {
-        answers = ap₂ (λ (x : Answer) (n : ℕ). record { answer = x; length = n }) ok (ap (λ (x : Text). x .length) e) ∙ ap (λ (x : Answer). reportedBy x (linesOf input)) (sym yes-room);
+        answers = ap₂ (λ (x : Answer) (k : ℕ). record { answer = x; length = k }) ok (first .1) ∙ ap (λ (x : Answer). reportedBy x (linesOf input)) (sym yes-room);
         scratch-left = f ∙ ap (λ (x : Answer). scratchBy x (scratchLeft input scratch) scratch) (sym yes-room);
-        output-left =
-            w .output
-            ∙ ap (λ (l : List ℕ). putOver l out) (text-holds (linesOf input) e)
-            ∙ ap (λ (b : Bool). cond b out (linesOf input ++ drop (length (linesOf input)) out)) (le-ltb (length out) (length (linesOf input)) (omega (arith, lines-short input)))
-            ∙ ap (λ (x : Answer). outputBy x (linesOf input) out) (sym yes-room);
+        output-left = first .0 ∙ ap (λ (x : Answer). outputBy x (linesOf input) out) (sym yes-room);
       }
 
 -- The same, by the length alone.
-pub reports-length : (input scratch left out after : List ℕ) (r : Reported) → Reports input scratch left out after r → Reports input scratch left out after (reportedBy (shortage (length scratch) (length out)) (linesOf input)) × (r .length ≡ reportedBy (shortage (length scratch) (length out)) (linesOf input) .length)
+pub reports-length : (input scratch left out after : List ℕ) (r : Reported) → Reports input scratch left out after r → Reports input scratch left out after (reportOf input scratch out) × (r .length ≡ reportOf input scratch out .length)
 reports-length input scratch left out after r w =
     (record { answers = refl; scratch-left = w .scratch-left; output-left = w .output-left }, ap (λ (x : Reported). x .length) (w .answers))
 
 -- The bytes written stand in the output.
 module _ (input scratch left out after : List ℕ) (r : Reported) (w : Reports input scratch left out after r) where
   pub reported-within : r .length ≤ length after
-  reported-within = go (shortage (length scratch) (length out)) (w .answers) (w .output-left)
+  reported-within = go (roomAnswer input scratch out) (w .answers) (w .output-left)
     where
       go : (x : Answer) → r ≡ reportedBy x (linesOf input) → after ≡ outputBy x (linesOf input) out → r .length ≤ length after
       go Accepted e f =

@@ -2,7 +2,7 @@
 use mathlib.Core.Path.{_≡_}
 use mathlib.Core.Bool.{cond}
 use mathlib.Core.List.{List, [], _∷_}
-use Prim.Native.Nat.{ℕ, _-_, _≤_}
+use Prim.Native.Nat.{ℕ, _+_, _-_, _≤_}
 use lib.ListN.{length, take, drop}
 use lib.Dec.{eqb}
 use Rattle.report.specs.declared.input.Part.{Part}
@@ -43,3 +43,11 @@ pub record Parted (input : List ℕ) (r : Parts) : Type 0 where
   pub in-q : Lies input (r .q) (textQ input)
   pub in-t : Lies input (r .t) (textT input)
   pub in-deck : Lies input (r .deck) (deckBytes input)
+
+-- The input from one position up to another.
+abbrev pub between : List ℕ → ℕ → ℕ → List ℕ
+between input start end = take (end - start) (drop start input)
+
+-- The part from a position up to the first line feed after it, or to the end.
+abbrev pub partFrom : List ℕ → ℕ → ℕ → Part
+partFrom input start end = record { start = start; end = start + length (ahead (between input start end)) }

@@ -37,9 +37,13 @@ zeroedBy (Refused g p) xs = xs
 unfoldable pub scratchLeft : List ℕ → List ℕ → List ℕ
 scratchLeft input xs = zeroedBy (outcomeOf input .answer) xs
 
--- Ground 21, then 22: the output is shorter than the longest report may be.
-unfoldable pub shortage : ℕ → ℕ → Answer
-shortage scratch out = given (ltb scratch scratchNeeded) ScratchShort Nothing (given (ltb out 256) OutputShort Nothing Accepted)
+-- Ground 21, then 22: the output is shorter than what is to be written.
+unfoldable pub shortage : ℕ → ℕ → ℕ → Answer
+shortage scratch out needed = given (ltb scratch scratchNeeded) ScratchShort Nothing (given (ltb out needed) OutputShort Nothing Accepted)
+
+-- What is answered of an input on this scratch and this output.
+abbrev pub roomAnswer : List ℕ → List ℕ → List ℕ → Answer
+roomAnswer input scratch out = shortage (length scratch) (length out) (length (linesOf input))
 
 -- What is answered, and left in the scratch and in the output, if the lent memory was judged so: on a refusal all is as it was.
 abbrev pub reportedBy : Answer → List ℕ → Reported
@@ -54,7 +58,11 @@ abbrev pub outputBy : Answer → List ℕ → List ℕ → List ℕ
 outputBy Accepted line before = line ++ drop (length line) before
 outputBy (Refused g p) line before = before
 
+-- What is answered of an input, by its lines.
+abbrev pub reportOf : List ℕ → List ℕ → List ℕ → Reported
+reportOf input scratch out = reportedBy (roomAnswer input scratch out) (linesOf input)
+
 pub record Reports (input scratch scratch′ out out′ : List ℕ) (r : Reported) : Type 0 where
-  pub answers : r ≡ reportedBy (shortage (length scratch) (length out)) (linesOf input)
-  pub scratch-left : scratch′ ≡ scratchBy (shortage (length scratch) (length out)) (scratchLeft input scratch) scratch
-  pub output-left : out′ ≡ outputBy (shortage (length scratch) (length out)) (linesOf input) out
+  pub answers : r ≡ reportOf input scratch out
+  pub scratch-left : scratch′ ≡ scratchBy (roomAnswer input scratch out) (scratchLeft input scratch) scratch
+  pub output-left : out′ ≡ outputBy (roomAnswer input scratch out) (linesOf input) out

@@ -2,8 +2,7 @@
 ghost use mathlib.Core.Path.{_≡_};
 ghost use Prim.Native.Nat.{_+_, _≤_, min};
 ghost use lib.ListN.{length};
-ghost use Rattle.report.specs.Input.{ahead, Parted};
-ghost use Rattle.report.specs.Building.{partFrom};
+ghost use Rattle.report.specs.Input.{ahead, partFrom, Parted};
 
 pub struct Part {
     pub start: usize,

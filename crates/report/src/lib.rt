@@ -1,24 +1,21 @@
 // Standard input's bytes to the printed lines.
-mod copy;
 mod input;
 mod lines;
-mod text;
+mod put;
 
 use answer::Answer;
 use answer::Ground;
 use answer::Place;
 use chain::open_deck;
-use copy::put;
 use input::split;
-use lines::refusal;
-use lines::result;
-use text::Text;
+use lines::put_refusal;
+use lines::put_result;
 ghost use mathlib.Core.Path.{_≡_};
 ghost use Prim.Native.Nat.{_≤_};
 ghost use lib.ListN.{length};
 ghost use Rattle.best.specs.Best.{scratchNeeded};
-ghost use Rattle.report.specs.Output.{textOf};
-ghost use Rattle.report.specs.Report.{linesOf, scratchLeft, shortage, reportedBy, Reports};
+ghost use Rattle.report.specs.Output.{Puts};
+ghost use Rattle.report.specs.Report.{linesOf, scratchLeft, shortage, reportOf, Reports};
 
 // What a report answers of the memory that it is lent, and how many bytes it wrote.
 pub struct Reported {
@@ -26,10 +23,10 @@ pub struct Reported {
     pub length: usize,
 }
 
-// The lines of an input: its best chain, or its refusal.
-fn lines_of(input: &[u8], scratch: &mut [u64]) -> Text
-    requires { ⌜ scratchNeeded ≤ length (now scratch) ⌝ }
-    ensures { λ r. ⌜ (r ≡ textOf (linesOf (now (input .entry)))) × (now (scratch .exit) ≡ scratchLeft (now (input .entry)) (now (scratch .entry))) ⌝ }
+// Puts the lines of an input to the start of the output: its best chain, or its refusal.
+fn put_lines(input: &[u8], scratch: &mut [u64], out: &mut [u8]) -> usize
+    requires { ⌜ (scratchNeeded ≤ length (now scratch)) × (length (linesOf (now input)) ≤ length (now out)) ⌝ }
+    ensures { λ r. ⌜ Puts (now (out .entry)) 0 (linesOf (now (input .entry))) (now (out .exit)) r × (now (scratch .exit) ≡ scratchLeft (now (input .entry)) (now (scratch .entry))) ⌝ }
 {
     let parts = split(input);
     let q = parts.q;
@@ -52,15 +49,24 @@ fn lines_of(input: &[u8], scratch: &mut [u64]) -> Text
             let session = opened.session;
             let best = session.best_chain(scratch);
             let chain = best.chain;
-            result(best.total, chain)
+            put_result(out, best.total, chain)
         }
-        _ => refusal(answer),
+        _ => put_refusal(out, answer),
     }
 }
 
-// Grounds 21 and 22: a scratch of 4,096 numbers, and an output of 256 bytes, which every report fits.
-fn judge_room(scratch: usize, out: usize) -> Answer
-    ensures { λ r. ⌜ r ≡ shortage scratch out ⌝ }
+// How many bytes the lines of an input have, found on memory of its own, so that nothing lent is touched.
+fn length_needed(input: &[u8]) -> usize
+    ensures { λ r. ⌜ r ≡ length (linesOf (now (input .entry))) ⌝ }
+{
+    let mut scratch = [0u64; 4096];
+    let mut out = [0u8; 256];
+    put_lines(input, &mut scratch[..], &mut out[..])
+}
+
+// Grounds 21 and 22. Every report fits 256 bytes, so that only a shorter output is held against the lines.
+fn judge_room(input: &[u8], scratch: usize, out: usize) -> Answer
+    ensures { λ r. ⌜ r ≡ shortage scratch out (length (linesOf (now (input .entry)))) ⌝ }
 {
     if scratch < 4096 {
         return Answer::Refused {
@@ -68,7 +74,10 @@ fn judge_room(scratch: usize, out: usize) -> Answer
             place: Place::Nothing,
         };
     }
-    if out < 256 {
+    if 256 <= out {
+        return Answer::Accepted;
+    }
+    if out < length_needed(input) {
         return Answer::Refused {
             ground: Ground::OutputShort,
             place: Place::Nothing,
@@ -81,12 +90,10 @@ fn judge_room(scratch: usize, out: usize) -> Answer
 pub fn report(input: &[u8], scratch: &mut [u64], out: &mut [u8]) -> Reported
     ensures { λ r. ⌜ Reports (now (input .entry)) (now (scratch .entry)) (now (scratch .exit)) (now (out .entry)) (now (out .exit)) r ⌝ }
 {
-    let answer = judge_room(scratch.len(), out.len());
+    let answer = judge_room(input, scratch.len(), out.len());
     match answer {
         Answer::Accepted => {
-            let text = lines_of(input, scratch);
-            let length = text.length;
-            put(text, out);
+            let length = put_lines(input, scratch, out);
             Reported { answer, length }
         }
         _ => Reported { answer, length: 0 },
@@ -96,7 +103,7 @@ pub fn report(input: &[u8], scratch: &mut [u64], out: &mut [u8]) -> Reported
 // The same for C and Rust: how many bytes were written, and 0 if the lent memory is too short.
 #[no_mangle]
 pub extern "C" fn gurandyo_report(input: &[u8], scratch: &mut [u64], out: &mut [u8]) -> usize
-    ensures { λ r. ⌜ Reports (now (input .entry)) (now (scratch .entry)) (now (scratch .exit)) (now (out .entry)) (now (out .exit)) (reportedBy (shortage (length (now (scratch .entry))) (length (now (out .entry)))) (linesOf (now (input .entry)))) × (r ≡ reportedBy (shortage (length (now (scratch .entry))) (length (now (out .entry)))) (linesOf (now (input .entry))) .length) ⌝ }
+    ensures { λ r. ⌜ Reports (now (input .entry)) (now (scratch .entry)) (now (scratch .exit)) (now (out .entry)) (now (out .exit)) (reportOf (now (input .entry)) (now (scratch .entry)) (now (out .entry))) × (r ≡ reportOf (now (input .entry)) (now (scratch .entry)) (now (out .entry)) .length) ⌝ }
 {
     report(input, scratch, out).length
 }

@@ -1,94 +1,90 @@
-// The printed lines.
-use super::text::Text;
-use super::text::empty;
-use super::text::with_byte;
-use super::text::with_numbered;
-use super::text::with_word;
+// The printed lines, put to a lent output.
+use super::put::put_byte;
+use super::put::put_numbered;
+use super::put::put_word;
 use answer::Answer;
 use answer::Place;
 use answer::number;
-ghost use mathlib.Core.Path.{_≡_};
 ghost use Rattle.answer.specs.Answer.{said};
 ghost use Rattle.report.specs.Lines.{scoreLine, member, members, chainLine, resultLines, placed, refusalLine};
-ghost use Rattle.report.specs.Output.{textOf};
-ghost use Rattle.report.specs.Building.{grown, Room};
+ghost use Rattle.report.specs.Output.{Room, Puts};
 
-// The text with a place more, if there is one.
-fn with_place(text: Text, place: Place) -> Text
-    requires { ⌜ Room text (placed place) ⌝ }
-    ensures { λ r. ⌜ r ≡ grown text (placed place) ⌝ }
+// A place, if there is one.
+fn put_place(out: &mut [u8], at: usize, place: Place) -> usize
+    requires { ⌜ Room (now out) at (placed place) ⌝ }
+    ensures { λ r. ⌜ Puts (now (out .entry)) at (placed place) (now (out .exit)) r ⌝ }
 {
     match place {
-        Place::ByteInQ(at) => with_numbered(text, b" Q ", at as u64),
-        Place::ByteInT(at) => with_numbered(text, b" T ", at as u64),
-        Place::Seed(seed) => with_numbered(text, b" seed ", seed as u64),
-        Place::Nothing => text,
+        Place::ByteInQ(byte) => put_numbered(out, at, b" Q ", byte as u64),
+        Place::ByteInT(byte) => put_numbered(out, at, b" T ", byte as u64),
+        Place::Seed(seed) => put_numbered(out, at, b" seed ", seed as u64),
+        Place::Nothing => at,
     }
 }
 
-// The line of a refusal; the empty text if the call was accepted.
-pub fn refusal(answer: Answer) -> Text
-    ensures { λ r. ⌜ r ≡ textOf (refusalLine (said answer)) ⌝ }
+// The line of a refusal; nothing if the call was accepted.
+pub fn put_refusal(out: &mut [u8], answer: Answer) -> usize
+    requires { ⌜ Room (now out) 0 (refusalLine (said answer)) ⌝ }
+    ensures { λ r. ⌜ Puts (now (out .entry)) 0 (refusalLine (said answer)) (now (out .exit)) r ⌝ }
 {
     match answer {
-        Answer::Accepted => empty(),
+        Answer::Accepted => 0,
         Answer::Refused { ground, place } => {
-            let front = with_numbered(empty(), b"refused ", number(ground) as u64);
-            let line = with_place(front, place);
-            with_byte(line, 10)
+            let behind_ground = put_numbered(out, 0, b"refused ", number(ground) as u64);
+            let behind_place = put_place(out, behind_ground, place);
+            put_byte(out, behind_place, 10)
         }
     }
 }
 
-// The text with a number more, one space before it, if the chain has it.
-fn with_member(text: Text, number: usize, has: bool) -> Text
-    requires { ⌜ Room text (member number has) ⌝ }
-    ensures { λ r. ⌜ r ≡ grown text (member number has) ⌝ }
+// A number with one space before it, if the chain has it.
+fn put_member(out: &mut [u8], at: usize, number: usize, has: bool) -> usize
+    requires { ⌜ Room (now out) at (member number has) ⌝ }
+    ensures { λ r. ⌜ Puts (now (out .entry)) at (member number has) (now (out .exit)) r ⌝ }
 {
     if has {
-        with_numbered(text, b" ", number as u64)
+        put_numbered(out, at, b" ", number as u64)
     } else {
-        text
+        at
     }
 }
 
-// The text with the numbers of the chain more.
-fn with_members(text: Text, chain: [bool; 64]) -> Text
-    requires { ⌜ Room text (members 1 chain) ⌝ }
-    ensures { λ r. ⌜ r ≡ grown text (members 1 chain) ⌝ }
+// The numbers of the chain.
+fn put_members(out: &mut [u8], at: usize, chain: [bool; 64]) -> usize
+    requires { ⌜ Room (now out) at (members 1 chain) ⌝ }
+    ensures { λ r. ⌜ Puts (now (out .entry)) at (members 1 chain) (now (out .exit)) r ⌝ }
 {
-    let mut next = text;
+    let mut next = at;
     let mut i = 0;
     while i < 64 {
-        next = with_member(next, i + 1, chain[i]);
+        next = put_member(out, next, i + 1, chain[i]);
         i += 1;
     }
     next
 }
 
-// The text with the score line more.
-fn with_score_line(text: Text, total: u64) -> Text
-    requires { ⌜ Room text (scoreLine total) ⌝ }
-    ensures { λ r. ⌜ r ≡ grown text (scoreLine total) ⌝ }
+fn put_score_line(out: &mut [u8], at: usize, total: u64) -> usize
+    requires { ⌜ Room (now out) at (scoreLine total) ⌝ }
+    ensures { λ r. ⌜ Puts (now (out .entry)) at (scoreLine total) (now (out .exit)) r ⌝ }
 {
-    let line = with_numbered(text, b"score ", total);
-    with_byte(line, 10)
+    let next = put_numbered(out, at, b"score ", total);
+    put_byte(out, next, 10)
 }
 
-// The text with the chain line more.
-fn with_chain_line(text: Text, chain: [bool; 64]) -> Text
-    requires { ⌜ Room text (chainLine chain) ⌝ }
-    ensures { λ r. ⌜ r ≡ grown text (chainLine chain) ⌝ }
+fn put_chain_line(out: &mut [u8], at: usize, chain: [bool; 64]) -> usize
+    requires { ⌜ Room (now out) at (chainLine chain) ⌝ }
+    ensures { λ r. ⌜ Puts (now (out .entry)) at (chainLine chain) (now (out .exit)) r ⌝ }
 {
-    let front = with_word(text, b"chain");
-    let line = with_members(front, chain);
-    with_byte(line, 10)
+    let behind_word = put_word(out, at, b"chain");
+    let behind_members = put_members(out, behind_word, chain);
+    put_byte(out, behind_members, 10)
 }
 
 // The two lines of a result.
-pub fn result(total: u64, chain: [bool; 64]) -> Text
-    ensures { λ r. ⌜ r ≡ textOf (resultLines total chain) ⌝ }
+pub fn put_result(out: &mut [u8], total: u64, chain: [bool; 64]) -> usize
+    requires { ⌜ Room (now out) 0 (resultLines total chain) ⌝ }
+    ensures { λ r. ⌜ Puts (now (out .entry)) 0 (resultLines total chain) (now (out .exit)) r ⌝ }
 {
-    let score = with_score_line(empty(), total);
-    with_chain_line(score, chain)
+    let behind_score = put_score_line(out, 0, total);
+    put_chain_line(out, behind_score, chain)
 }
