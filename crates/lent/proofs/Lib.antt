@@ -1,0 +1,4 @@
+pub mod Pairs
+pub mod Rescored
+pub mod Demand
+mod Rows

@@ -1,0 +1,140 @@
+-- The nodes of a list of pairs hold its first 1,025 pairs, and these are added as the whole list is: of more than 1,024 pairs none is looked at.
+-- Assumes nothing.
+use mathlib.Core.Path.{_≡_, refl, ap, sym, _∙_}
+use mathlib.Core.Bool.{Bool, true, false, not}
+use mathlib.Core.Logic.{inl, inr}
+use mathlib.Core.List.{List, [], _∷_, _++_, append-assoc, append-nil}
+use Prim.Native.Nat.{ℕ, zero, suc, _+_, _≤_, _<_, min}
+use native.Mathlib.Numerals.{add-one}
+use native.Mathlib.Omega.{arith}
+use lib.Dec.{leb}
+use lib.IntN.{ℤ}
+use lib.ListN.{length, take, drop, getD, set, length-set, length-take, length-replicate}
+use lib.Seq.{drop-cons, drop-length, take-all, take-nil, take-suc-set, length-take-le}
+use borrow.Author.Tests.{lt-ltb, le-ltb, ne-eqb}
+use Rattle.answer.specs.declared.Answer.{Answer}
+use Rattle.answer.specs.declared.Answer.the-variants.{Refused}
+use Rattle.answer.specs.declared.Ground.the-variants.{ScoreRange, SeedLimit, PairLimit}
+use Rattle.answer.specs.declared.Place.{Place}
+use Rattle.answer.specs.declared.Place.the-variants.{Seed}
+use Rattle.tree.proofs.Leaves.{lt-or-le}
+use Rattle.seed.specs.Pairs.{pairOf, pairsOf}
+use Rattle.seed.specs.declared.Pair.{Pair}
+use Rattle.chain.specs.State.{State, decide, given, unless, inRange, limitAnswer, addAnswer, add}
+use Rattle.lent.specs.Listing.{noNodes, withPair, withPairs, heldIn, Filled}
+use Rattle.lent.specs.declared.listing.Nodes.{Nodes}
+
+-- One pair more is taken off what is left, until nothing is.
+pub pairs-step : (ps : List Pair) (i : ℕ) (d : Pair) (n : Nodes) → i < length ps → withPairs (drop i ps) n ≡ withPairs (drop (i + 1) ps) (withPair n (getD ps i d .q) (getD ps i d .t))
+unfolding withPairs
+pairs-step ps i d n h = ap (λ (rest : List Pair). withPairs rest n) (drop-cons ps i d h) ∙ ap (λ (k : ℕ). withPairs (drop k ps) (withPair n (getD ps i d .q) (getD ps i d .t))) (sym (add-one i))
+
+pub pairs-end : (ps : List Pair) (i : ℕ) (n : Nodes) → i ≡ length ps → withPairs (drop i ps) n ≡ n
+unfolding withPairs
+pairs-end ps i n e = ap (λ (k : ℕ). withPairs (drop k ps) n) e ∙ ap (λ (rest : List Pair). withPairs rest n) (drop-length ps)
+
+-- Two lists of 1,025 nodes each, and a count within.
+record Sized (n : Nodes) : Type 0 where
+  count : n .count ≤ 1025
+  size-q : length (n .qs) ≡ 1025
+  size-t : length (n .ts) ≡ 1025
+
+sized-none : Sized noNodes
+unfolding noNodes
+sized-none = record { count = omega arith; size-q = length-replicate {A = ℕ} 1025 0; size-t = length-replicate {A = ℕ} 1025 0 }
+
+-- One pair more on two lists of one length.
+pairs-more : (a b : List ℕ) (q t : ℕ) → length a ≡ length b → pairsOf (a ++ q ∷ []) (b ++ t ∷ []) ≡ pairsOf a b ++ pairOf q t ∷ []
+unfolding pairsOf
+pairs-more [] [] q t e = refl
+pairs-more [] (y ∷ b) q t e = absurd (omega arith)
+pairs-more (x ∷ a) [] q t e = absurd (omega arith)
+pairs-more (x ∷ a) (y ∷ b) q t e = ap (λ (ps : List Pair). pairOf x y ∷ ps) (pairs-more a b q t (omega arith))
+
+module _ (n : Nodes) (h : Sized n) (q t : ℕ) where
+  stored : n .count < 1025 → withPair n q t ≡ record { count = n .count + 1; qs = set (n .qs) (n .count) q; ts = set (n .ts) (n .count) t }
+  unfolding withPair
+  stored less = rw (lt-ltb (n .count) 1025 less)
+
+  full : 1025 ≤ n .count → withPair n q t ≡ n
+  unfolding withPair
+  full most = rw (le-ltb (n .count) 1025 most)
+
+  sized-more : Sized (withPair n q t)
+  sized-more =
+      elim (lt-or-le (n .count) 1025) [
+        | inl less ↦ rw (stored less) (record { count = omega (arith, less); size-q = length-set (n .qs) (n .count) q ∙ h .size-q; size-t = length-set (n .ts) (n .count) t ∙ h .size-t })
+        | inr most ↦ rw (full most) h
+      ]
+
+  held-more : n .count < 1025 → heldIn (withPair n q t) ≡ heldIn n ++ pairOf q t ∷ []
+  unfolding heldIn
+  held-more less =
+      let in-q : n .count < length (n .qs) = omega (arith, h .size-q, less) in
+      let in-t : n .count < length (n .ts) = omega (arith, h .size-t, less) in
+      let long-q : length (take (n .count) (n .qs)) ≡ n .count = length-take-le (n .count) (n .qs) (omega arith) in
+      let long-t : length (take (n .count) (n .ts)) ≡ n .count = length-take-le (n .count) (n .ts) (omega arith) in
+      rw (stored less, add-one (n .count), take-suc-set (n .qs) (n .count) q in-q, take-suc-set (n .ts) (n .count) t in-t)
+      (pairs-more (take (n .count) (n .qs)) (take (n .count) (n .ts)) q t (long-q ∙ sym long-t))
+
+sized-all : (ps : List Pair) (n : Nodes) → Sized n → Sized (withPairs ps n)
+unfolding withPairs
+sized-all [] n h = h
+sized-all (p ∷ ps) n h = sized-all ps (withPair n (p .q) (p .t)) (sized-more n h (p .q) (p .t))
+
+-- With room for k pairs more, the first k of a list are added to those held.
+held-all : (ps : List Pair) (n : Nodes) (k : ℕ) → Sized n → n .count + k ≡ 1025 → heldIn (withPairs ps n) ≡ heldIn n ++ take k ps
+unfolding withPairs
+held-all [] n k h e = rw (take-nil {A = Pair} k) (sym (append-nil (heldIn n)))
+held-all (p ∷ ps) n zero h e = rw (full n h (p .q) (p .t) (omega arith)) (held-all ps n zero h e)
+held-all (p ∷ ps) n (suc k) h e =
+    let less : n .count < 1025 = omega arith in
+    let more : withPair n (p .q) (p .t) .count ≡ n .count + 1 = ap (λ (m : Nodes). m .count) (stored n h (p .q) (p .t) less) in
+    held-all ps (withPair n (p .q) (p .t)) k (sized-more n h (p .q) (p .t)) (omega arith)
+    ∙ ap (λ (held : List Pair). held ++ take k ps) (held-more n h (p .q) (p .t) less)
+    ∙ append-assoc (heldIn n) (p ∷ []) (take k ps)
+
+pub listed-filled : (ps : List Pair) → Filled (withPairs ps noNodes)
+listed-filled ps =
+    let h = sized-all ps noNodes sized-none in
+    record { room-q = omega (arith, h .count, h .size-q); room-t = omega (arith, h .count, h .size-t) }
+
+-- The first 1,025 pairs are held.
+pub listed-first : (ps : List Pair) → heldIn (withPairs ps noNodes) ≡ take 1025 ps
+unfolding noNodes heldIn pairsOf
+listed-first ps = held-all ps noNodes 1025 sized-none refl
+
+-- More than 1,024 pairs are refused by 11, 13 or 14, whatever the pairs are.
+abbrev tooMany : Bool → Bool → Place → Answer
+tooMany score seeds p = given score ScoreRange p (given seeds SeedLimit p (Refused PairLimit p))
+
+limit-many : (seeds pairs count : ℕ) (z : ℤ) → 1024 < count → limitAnswer seeds pairs count z ≡ tooMany (not (inRange z)) (leb 64 seeds) (Seed (seeds + 1))
+unfolding limitAnswer
+limit-many seeds pairs count z h = rw (ne-eqb count 0 (λ e. omega arith), lt-ltb 1024 (pairs + count) (omega arith))
+
+refused-alike : (b c : Bool) (p : Place) (later later′ : Answer) (s next next′ : State) → decide (unless (tooMany b c p) later) s next ≡ decide (unless (tooMany b c p) later′) s next′
+refused-alike true c p later later′ s next next′ = refl
+refused-alike false true p later later′ s next next′ = refl
+refused-alike false false p later later′ s next next′ = refl
+
+pub add-many : (s : State) (ps ps′ : List Pair) (z : ℤ) → 1024 < length ps → 1024 < length ps′ → add s ps z ≡ add s ps′ z
+unfolding add addAnswer
+add-many s ps ps′ z h h′ = rw (limit-many _ _ (length ps) z h, limit-many _ _ (length ps′) z h′) (refused-alike (not (inRange z)) (leb 64 (length (s .rows))) _ _ _ s _ _)
+
+-- So the pairs held are added as the whole list is.
+pub add-listed : (s : State) (ps : List Pair) (z : ℤ) → add s (heldIn (withPairs ps noNodes)) z ≡ add s ps z
+add-listed s ps z =
+    ap (λ (held : List Pair). add s held z) (listed-first ps)
+    ∙ elim (lt-or-le 1025 (length ps)) [
+      | inl more ↦ add-many s (take 1025 ps) ps z (rw (length-take-le 1025 ps (omega arith)) (omega arith)) (omega arith)
+      | inr all ↦ ap (λ (held : List Pair). add s held z) (take-all 1025 ps all)
+    ]
+
+-- As many of a list as are asked for and as there are.
+take-front : (c : ℕ) (xs : List Pair) → take (length (take c xs)) xs ≡ take c xs
+take-front zero xs = refl
+take-front (suc c) [] = refl
+take-front (suc c) (x ∷ xs) = ap (λ (rest : List Pair). x ∷ rest) (take-front c xs)
+
+pub take-least : (c : ℕ) (xs : List Pair) → take (min c (length xs)) xs ≡ take c xs
+take-least c xs = ap (λ (m : ℕ). take m xs) (sym (length-take c xs)) ∙ take-front c xs

@@ -1,0 +1,64 @@
+-- What the contract of `rescore` means: the seed changes nowhere but in its score. Assumes nothing.
+use mathlib.Core.Path.{_≡_, refl, sym, ap, _∙_}
+use mathlib.Core.Logic.{_≢_}
+use mathlib.Core.List.{List}
+use Prim.Native.Nat.{ℕ, _-_, _≤_}
+use native.Mathlib.Omega.{arith}
+use lib.IntN.{ℤ}
+use lib.ListN.{length, length-set}
+use lib.Seq.{getD-set-same, getD-set-other}
+use Rattle.answer.specs.declared.Answer.{Answer}
+use Rattle.answer.specs.declared.Answer.the-variants.{Accepted, Refused}
+use Rattle.chain.specs.State.{Row, State, decide, noRow, rowOf, withRow, withScore, changed, rescoreAnswer, rescore}
+use Rattle.chain.specs.View.{table, view, Does}
+use Rattle.chain.specs.declared.Session.{Session}
+use Rattle.lent.specs.Rescored.{OnlyScore, Rescored}
+use Rattle.chain.proofs.Judging.{Given, rescorable}
+use Rattle.chain.proofs.Tables.{table-length}
+
+decided : (b : Answer) (s next : State) → decide b s next .answer ≡ b
+decided Accepted s next = refl
+decided (Refused g p) s next = refl
+
+module _ (s next : Session) (k : ℕ) (z : ℤ) (a : Answer) (d : Does s (rescore (view s) k z) a next) (ok : a ≡ Accepted) where
+  passed : rescoreAnswer (length (table s)) (s .changes) k z ≡ Accepted
+  unfolding rescore
+  passed = sym (decided _ (view s) _) ∙ sym (d .answers) ∙ ok
+
+  number : Given (length (table s)) k
+  number = rescorable _ _ k z passed .number
+
+  state : view next ≡ changed (view s) (withRow (table s) k (withScore (rowOf (table s) k) z))
+  unfolding rescore
+  state = d .leaves ∙ ap (λ (b : Answer). decide b (view s) (changed (view s) (withRow (table s) k (withScore (rowOf (table s) k) z))) .state) passed
+
+  rows : table next ≡ withRow (table s) k (withScore (rowOf (table s) k) z)
+  rows = ap (λ (x : State). x .rows) state
+
+  row : rowOf (table next) k ≡ withScore (rowOf (table s) k) z
+  unfolding rowOf withRow
+  row = ap (λ (t : List Row). rowOf t k) rows ∙ getD-set-same (table s) (k - 1) _ noRow (omega (arith, number))
+
+  other : (j : ℕ) → 1 ≤ j → j ≢ k → rowOf (table next) j ≡ rowOf (table s) j
+  unfolding rowOf withRow
+  other j low ne = ap (λ (t : List Row). rowOf t j) rows ∙ getD-set-other (table s) (k - 1) (j - 1) _ noRow (λ e. ne (omega (arith, number, low)))
+
+  same-length : length (table next) ≡ length (table s)
+  unfolding withRow
+  same-length = ap length rows ∙ length-set (table s) (k - 1) _
+
+  only-score : OnlyScore s k z next
+  only-score =
+      record {
+        tree-q = ap (λ (x : State). x .q) state;
+        tree-t = ap (λ (x : State). x .t) state;
+        seeds = sym (table-length next) ∙ same-length ∙ table-length s;
+        others = other;
+        pairs = ap (λ (r : Row). r .pairs) row;
+        present = ap (λ (r : Row). r .present) row;
+        score = ap (λ (r : Row). r .score) row;
+        changes = ap (λ (x : State). x .changes) state;
+      }
+
+pub rescored-only : (s next : Session) (k : ℕ) (z : ℤ) (a : Answer) → Does s (rescore (view s) k z) a next → Rescored s k z a next
+rescored-only s next k z a d = record { accepted = only-score s next k z a d; refused = d .refused }
