@@ -1,24 +1,23 @@
 // A script of cases: each line is a call and, behind "=", what it must answer.
-use super::observe::alike;
-use super::plain::byte_at;
-use super::plain::more;
-use super::plain::part;
-use super::text::Text;
-use super::text::blank;
-use super::text::byte_of;
-use super::text::is;
-use super::text::print;
-use super::text::with_bytes;
-use super::text::with_number;
 use super::verbs::called;
 use super::verbs::opens;
-use super::words;
-use super::words::line_end;
-use super::words::next;
-use super::words::number;
-use super::words::sign;
-use super::words::word;
+use calls::observe::alike;
 use chain::Session;
+use words::Text;
+use words::begins;
+use words::blank;
+use words::is;
+use words::line::line_end;
+use words::line::next;
+use words::line::number;
+use words::line::sign;
+use words::line::word;
+use words::plain::byte_at;
+use words::plain::more;
+use words::plain::part;
+use words::print;
+use words::with_bytes;
+use words::with_number;
 ghost use Rattle.chain.specs.View.{Sound};
 
 // Where a script stands: the session, where in the script its two texts and the name of the case are, and what is counted; `bad` is
@@ -55,7 +54,7 @@ fn kept(session: Session, later: Session, s: &[u8], at: usize, text: Text) -> bo
     if opens(s, at) {
         return true;
     }
-    if byte_of(text, 0) != b'r' {
+    if !begins(text, b'r') {
         return true;
     }
     let mut first = [0u8; 16384];
@@ -152,9 +151,10 @@ fn named(state: State, s: &[u8], at: usize) -> State
     requires { ⌜ Sound (state .session) ⌝ }
     ensures { λ r. ⌜ Sound (r .session) ⌝ }
 {
-    let mut next = ended(state, s);
-    next.name = words::next(s, at);
-    next
+    let name = next(s, at);
+    let mut later = ended(state, s);
+    later.name = name;
+    later
 }
 
 fn line(state: State, s: &[u8], at: usize) -> State

@@ -1,19 +1,21 @@
 // The words that name the calls.
-use super::calls::Done;
-use super::calls::add;
-use super::calls::bring_back;
-use super::calls::deal;
-use super::calls::open;
-use super::calls::rescore;
-use super::calls::withdraw;
-use super::random::random;
-use super::text::Text;
-use super::text::blank;
-use super::text::with_bytes;
-use super::views;
-use super::words::next;
-use super::words::word;
+use super::groups::random;
+use calls::changes::Done;
+use calls::changes::add;
+use calls::changes::add_lent;
+use calls::changes::deal;
+use calls::changes::move_to;
+use calls::changes::open;
+use calls::changes::rescore;
+use calls::changes::rescore_lent;
+use calls::reports::report;
+use calls::views;
 use chain::Session;
+use words::Text;
+use words::blank;
+use words::line::next;
+use words::line::word;
+use words::with_bytes;
 ghost use Rattle.chain.specs.View.{Sound};
 
 // A call that changes no session. The session's two texts stand at a place of their own.
@@ -39,6 +41,9 @@ fn looking(session: Session, s: &[u8], at: usize, texts: usize) -> Text
     if check::same(word(s, at), b"read") {
         return views::read(s, args);
     }
+    if check::same(word(s, at), b"report") {
+        return report(s, args);
+    }
     if check::same(word(s, at), b"random") {
         return random(s, args);
     }
@@ -62,7 +67,26 @@ fn opening(s: &[u8], at: usize) -> Done
     deal(s, next(s, at))
 }
 
-fn call(session: Session, s: &[u8], at: usize, texts: usize) -> Done
+// Whether the call is one on lent memory.
+fn lends(s: &[u8], at: usize) -> bool {
+    if check::same(word(s, at), b"add-lent") {
+        return true;
+    }
+    check::same(word(s, at), b"rescore-lent")
+}
+
+fn lending(session: Session, s: &[u8], at: usize) -> Done
+    requires { ⌜ Sound session ⌝ }
+    ensures { λ r. ⌜ Sound (r .session) ⌝ }
+{
+    if check::same(word(s, at), b"add-lent") {
+        return add_lent(session, s, next(s, at));
+    }
+    rescore_lent(session, s, next(s, at))
+}
+
+// A call on a session by value, whether it changes the session or not.
+fn by_value(session: Session, s: &[u8], at: usize, texts: usize) -> Done
     requires { ⌜ Sound session ⌝ }
     ensures { λ r. ⌜ Sound (r .session) ⌝ }
 {
@@ -71,21 +95,31 @@ fn call(session: Session, s: &[u8], at: usize, texts: usize) -> Done
         return add(session, s, args);
     }
     if check::same(word(s, at), b"withdraw") {
-        return withdraw(session, s, args);
+        return move_to(session, s, args, false);
     }
     if check::same(word(s, at), b"back") {
-        return bring_back(session, s, args);
+        return move_to(session, s, args, true);
     }
     if check::same(word(s, at), b"rescore") {
         return rescore(session, s, args);
-    }
-    if opens(s, at) {
-        return opening(s, at);
     }
     Done {
         session,
         text: looking(session, s, at, texts),
     }
+}
+
+fn call(session: Session, s: &[u8], at: usize, texts: usize) -> Done
+    requires { ⌜ Sound session ⌝ }
+    ensures { λ r. ⌜ Sound (r .session) ⌝ }
+{
+    if opens(s, at) {
+        return opening(s, at);
+    }
+    if lends(s, at) {
+        return lending(session, s, at);
+    }
+    by_value(session, s, at, texts)
 }
 
 // The call so many times, and at least once: what the last one answers.
