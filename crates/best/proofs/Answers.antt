@@ -15,13 +15,14 @@ use Rattle.seed.specs.Seed.{Seed, lastPair}
 use Rattle.seed.specs.Store.{bound, pairsAt, Laid}
 use Rattle.seed.specs.declared.Pair.{Pair}
 use Rattle.seed.specs.declared.Store.{Store}
+use Rattle.seed.proofs.Laws.{test-laws}
 use Rattle.optimum.specs.Key.{inMask}
 use Rattle.optimum.specs.Table.{stored}
 use Rattle.optimum.specs.Table as optimum
 use Rattle.seed.specs.Tab.{tab}
 use Rattle.best.specs.Best.{keyOf, scratchNeeded, refused, bestOf, scratchAfter, scoreAt, presentAt, Handed, Answered}
 use Rattle.best.specs.Order.{AllBounded, lastOf, Ordered}
-use Rattle.best.specs.Stands.{nodesOf, pairsIn, seedAt, Listed, Placed, Related}
+use Rattle.best.specs.Stands.{nodesOf, pairsIn, seedAt, Listed, Placed, Lawful, Related}
 use Rattle.best.specs.Table.{itemsOf, Posed}
 use Rattle.best.proofs.Listing.{posed, key-is}
 use Rattle.best.proofs.Standing.{last-is}
@@ -83,20 +84,26 @@ module _ (q t : Tree) (s : Store) (n : ℕ) (scores : List ℤ) (present : List 
       }
 
   -- The table of the stored seeds, by rising last q.
-  module _ (h : Handed q t s n scores) (numbers : List ℕ) (m : ℕ) (o : Ordered (lastOf (s .qs) (s .bounds)) (presentAt present) n numbers m) (lefts unders : List ℕ) (r : Related (leavesOf q) (leavesOf t) (seedAt (s .qs) (s .ts) (s .bounds) numbers) m lefts unders) where
+  module _ (h : Handed q t s n scores) (numbers : List ℕ) (m : ℕ) (o : Ordered (lastOf (s .qs) (s .bounds)) (presentAt present) n numbers m) where
     abbrev pairs : ℕ → List Pair
     pairs = pairsIn (s .qs) (s .ts) (s .bounds)
 
     seeds : (i : ℕ) → i < n → Seed (leavesOf q) (leavesOf t) (pairs i)
     seeds i b = rw (pairs-are s n (h .kept .laid) i) (h .kept .seed i b)
 
-    pub table-posed : Posed lefts unders numbers scores m
-    table-posed =
-        posed (tree-nested q (h .kept .is-q)) (tree-nested t (h .kept .is-t)) pairs scores (presentAt present) n seeds
-        (lastOf (s .qs) (s .bounds)) (last-q s n (h .kept .laid)) numbers m o lefts unders r (h .kept .laid .seeds) (h .most)
+    pub lawful : Lawful (leavesOf q) (leavesOf t) (seedAt (s .qs) (s .ts) (s .bounds) numbers) m
+    lawful =
+        let w = test-laws (tree-nested q (h .kept .is-q)) (tree-nested t (h .kept .is-t)) m (seedAt (s .qs) (s .ts) (s .bounds) numbers) (λ k b. seeds (getD numbers k 0) (o .within k b)) in
+        record { left-left = w .left-left; under-left = w .under-left; under-under = w .under-under; never-both = w .never-both }
 
-    pub table-key : optimum.bestOf (itemsOf lefts unders numbers scores) (λ x. true) m ≡ keyOf (leavesOf q) (leavesOf t) (pairsAt s) (scoreAt scores) (presentAt present) n
-    table-key =
-        key-is (tree-nested q (h .kept .is-q)) (tree-nested t (h .kept .is-t)) pairs scores (presentAt present) n seeds
-        (lastOf (s .qs) (s .bounds)) (last-q s n (h .kept .laid)) numbers m o lefts unders r
-        ∙ ap (λ f. keyOf (leavesOf q) (leavesOf t) f (scoreAt scores) (presentAt present) n) (fun-ext (pairs-are s n (h .kept .laid)))
+    module _ (lefts unders : List ℕ) (r : Related (leavesOf q) (leavesOf t) (seedAt (s .qs) (s .ts) (s .bounds) numbers) m lefts unders) where
+      pub table-posed : Posed lefts unders numbers scores m
+      table-posed =
+          posed (tree-nested q (h .kept .is-q)) (tree-nested t (h .kept .is-t)) pairs scores (presentAt present) n seeds
+          (lastOf (s .qs) (s .bounds)) (last-q s n (h .kept .laid)) numbers m o lefts unders r (h .kept .laid .seeds) (h .most)
+
+      pub table-key : optimum.bestOf (itemsOf lefts unders numbers scores) (λ x. true) m ≡ keyOf (leavesOf q) (leavesOf t) (pairsAt s) (scoreAt scores) (presentAt present) n
+      table-key =
+          key-is (tree-nested q (h .kept .is-q)) (tree-nested t (h .kept .is-t)) pairs scores (presentAt present) n seeds
+          (lastOf (s .qs) (s .bounds)) (last-q s n (h .kept .laid)) numbers m o lefts unders r
+          ∙ ap (λ f. keyOf (leavesOf q) (leavesOf t) f (scoreAt scores) (presentAt present) n) (fun-ext (pairs-are s n (h .kept .laid)))

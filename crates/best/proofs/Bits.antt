@@ -1,13 +1,12 @@
--- Which numbers masks have: one made number by number, the one of two, and the one of all. Assumes nothing.
+-- Which numbers masks have: one of a set, the one of two, and the one of all. Assumes nothing.
 use mathlib.Core.Path.{_≡_, refl, ap, _∙_}
-use mathlib.Core.Bool.{Bool, true, false, cond, _&&_}
-use Prim.Native.Nat.{ℕ, zero, suc, _+_, _/_, _%_, _^_, _<_}
-use native.Mathlib.Numerals.{add-one}
+use mathlib.Core.Bool.{Bool, true, _&&_}
+use Prim.Native.Nat.{ℕ, zero, suc, _/_, _%_, _^_, _<_}
 use native.Mathlib.Omega.{arith}
 use lib.Bits.{bitAnd, and-shr, and-mod}
 use lib.Dec.{T, eqb, ltb, ltb→lt, lt→ltb}
 use Rattle.optimum.specs.Key.{maskOf, inMask}
-use Rattle.optimum.proofs.Booleans.{T-eq, and-l}
+use Rattle.optimum.proofs.Booleans.{T-eq, and-l, and-r}
 use Rattle.optimum.proofs.Masks.{mask-bit}
 
 and-digits : (x y : ℕ) → x < 2 → y < 2 → eqb (bitAnd x y) 1 ≡ (eqb x 1 && eqb y 1)
@@ -36,14 +35,11 @@ mask-has f n i =
     ap (λ m. inMask m i) (mask-same f (λ j. ltb j n && f j) n (λ j b. rw (T-eq {b = ltb j n} (lt→ltb j n b))))
     ∙ mask-bit (λ j. ltb j n && f j) n (λ j t. ltb→lt j n (and-l (ltb j n) (f j) t)) i
 
--- A mask that a program makes: of no numbers, and of one number more if it is on.
-pub mask-start : (f : ℕ → Bool) → 0 ≡ maskOf f 0
-unfolding maskOf
-mask-start f = refl
-
-pub mask-more : (f : ℕ → Bool) (n : ℕ) {on : Bool} {m r : ℕ} → m ≡ maskOf f n → on ≡ f n → r ≡ cond on (2 ^ n + m) m → r ≡ maskOf f (n + 1)
-unfolding maskOf
-mask-more f n e g h = rw (add-one n, ← e, ← g) h
+-- What such a mask says of a number.
+pub mask-says : (f : ℕ → Bool) (x y : ℕ) {m : ℕ} → m ≡ maskOf f y → T (inMask m x) → (x < y) × (f x ≡ true)
+mask-says f x y e t =
+    let h : T (ltb x y && f x) = rw (← mask-has f y x, ← e) t in
+    (ltb→lt x y (and-l (ltb x y) (f x) h), T-eq (and-r (ltb x y) (f x) h))
 
 ones : maskOf (λ j. true) 64 ≡ 18446744073709551615
 unfolding maskOf

@@ -2,6 +2,7 @@ pub mod Filling
 pub mod Signs
 pub mod Bits
 pub mod Members
+pub mod Knowing
 pub mod Ranks
 pub mod Banks
 pub mod Rows

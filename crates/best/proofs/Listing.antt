@@ -1,12 +1,12 @@
 -- The present seeds by rising last q, with the masks of each, are a listing of the seeds and keep the laws of the table, so that the table's
 -- best key is that of the definition. Assumes nothing.
 use mathlib.Core.Path.{_≡_, refl, ap}
-use mathlib.Core.Bool.{Bool, true, _&&_}
+use mathlib.Core.Bool.{Bool, true}
 use mathlib.Core.List.{List}
 use mathlib.Core.Logic.{_⊎_, inl, inr}
 use Prim.Native.Nat.{ℕ, _≤_, _<_}
 use native.Mathlib.Omega.{arith}
-use lib.Dec.{T, ltb, ltb→lt, lt→ltb}
+use lib.Dec.{T, ltb, lt→ltb}
 use lib.IntN.{ℤ, pos}
 use lib.ListN.{getD}
 use lib.Signed.{_≤ℤ_}
@@ -22,22 +22,17 @@ use Rattle.seed.proofs.Laws as seed
 use Rattle.optimum.specs.Chain.{Seeds}
 use Rattle.optimum.specs.Key.{inMask, maskOf}
 use Rattle.optimum.specs.Table.{Items, Laws, Numbered, chainable, bestOf}
-use Rattle.optimum.proofs.Booleans.{T-eq, and-i, and-l, and-r, or-l, or-r, or-e}
+use Rattle.optimum.proofs.Booleans.{and-i, or-l, or-r, or-e}
 use Rattle.optimum.proofs.BestChain.{Listed, best-agrees}
 use Rattle.best.specs.Best.{keyOf, scoreAt, seedsOf}
 use Rattle.best.specs.Order.{Ordered}
 use Rattle.best.specs.Stands.{masksOf, Related}
 use Rattle.best.specs.Table.{marked, itemsOf, Posed}
 use Rattle.best.specs.declared.stands.Masks.{Masks}
-use Rattle.best.proofs.Bits.{mask-has, told-yes}
+use Rattle.best.proofs.Bits.{mask-has, mask-says, told-yes}
 use Rattle.best.proofs.BestChain.{numbered}
 
--- A mask of the seeds before y has x exactly if x is before y and passes.
-mask-says : (f : ℕ → Bool) (x y : ℕ) {m : ℕ} → m ≡ maskOf f y → T (inMask m x) → (x < y) × (f x ≡ true)
-mask-says f x y e t =
-    let h : T (ltb x y && f x) = rw (← mask-has f y x, ← e) t in
-    (ltb→lt x y (and-l (ltb x y) (f x) h), T-eq (and-r (ltb x y) (f x) h))
-
+-- A mask of the seeds before y has x if x is before y and passes.
 mask-told : (f : ℕ → Bool) (x y : ℕ) {m : ℕ} → m ≡ maskOf f y → x < y → f x ≡ true → T (inMask m x)
 mask-told f x y e b h = rw (e, mask-has f y x) (and-i (ltb x y) (f x) (lt→ltb x y b) (told-yes refl h))
 

@@ -116,7 +116,7 @@ pub record Left (mask k rest : ℕ) : Type 0 where
 pub left-start : (mask : ℕ) → mask < 2 ^ 64 → Left mask 0 mask
 left-start mask b = record { is = mask-self 64 mask b ∙ mask-same (inMask mask) (above mask 0) 64 (λ j h. rw (le-leb 0 j (omega arith))) }
 
-nothing : (j : ℕ) → inMask 0 j ≡ false
+pub nothing : (j : ℕ) → inMask 0 j ≡ false
 unfolding maskOf
 nothing j = mask-has (λ i. false) 0 j ∙ rw (le-ltb j 0 (omega arith))
 

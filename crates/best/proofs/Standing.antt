@@ -1,6 +1,6 @@
 -- How the seeds of a list stand to one another, filled in seed by seed. Assumes nothing.
 use mathlib.Core.Path.{_≡_, sym, ap, ap₂, _∙_}
-use mathlib.Core.Bool.{Bool, false, _&&_}
+use mathlib.Core.Bool.{Bool, true, false, _&&_}
 use mathlib.Core.List.{List, [], _∷_}
 use Prim.Native.Nat.{ℕ, _+_, _-_, _≤_, _<_}
 use native.Mathlib.Omega.{arith}
@@ -17,12 +17,12 @@ use Rattle.seed.specs.Seed.{lastPair}
 use Rattle.seed.specs.Store.{between}
 use Rattle.seed.specs.declared.Pair.{Pair}
 use Rattle.seed.proofs.PairLists.{count-first, last-pair-at}
-use Rattle.optimum.specs.Key.{maskOf}
+use Rattle.optimum.specs.Key.{maskOf, inMask}
 use Rattle.best.specs.Order.{Bounded, lastOf}
-use Rattle.best.specs.Stands.{nodesOf, pairsIn, standOf, masksOf, alone, seedAt, Lasts, LastAt, Placed, Related}
+use Rattle.best.specs.Stands.{nodesOf, pairsIn, standOf, masksOf, alone, seedAt, Lasts, LastAt, Composed, Placed, Lawful, Related}
 use Rattle.best.specs.declared.stands.Stand.{Stand}
 use Rattle.best.specs.declared.stands.Masks.{Masks}
-use Rattle.best.proofs.Bits.{mask-same}
+use Rattle.best.proofs.Bits.{mask-same, mask-says}
 
 -- How a seed stands is told by its last pair: left of the other if it comes before it in Q, else under it or neither.
 module _ (Q T : List ℕ) (us : List Pair) (s u : Pair) (e : u ≡ lastPair us) where
@@ -93,14 +93,50 @@ module _ (qs ts bounds numbers : List ℕ) (m : ℕ) (h : Placed qs ts bounds nu
           is = last-at y l ∙ ap lastPair (sym seed-is);
         }
 
-    -- The masks by last pairs are those of the seeds.
-    pub masks-same : (Q T : List ℕ) → masksOf Q T (alone rq rt) (pairsOf uq ut) y ≡ masksOf Q T (seedAt qs ts bounds numbers) (seedAt qs ts bounds numbers y) y
-    unfolding masksOf left under
-    masks-same Q T =
-        rw (seed-is)
-        (ap₂ (λ (l m : ℕ). record { left = l; under = m })
-        (mask-same _ _ y (λ k g. ap (λ (p : Pair). ltb (p .q) (leaf Q (lastPair (seedAt qs ts bounds numbers y) .q)) && ltb (p .t) (leaf T (lastPair (seedAt qs ts bounds numbers y) .t))) (last-at k (omega arith))))
-        (mask-same _ _ y (λ k g. ap (λ (p : Pair). fits Q T (seedAt qs ts bounds numbers y) (p .q) (p .t)) (last-at k (omega arith)))))
+    -- By last pairs as by the seeds.
+    module _ (Q T : List ℕ) where
+      left-same : (k : ℕ) → k < m → left Q T (alone rq rt k) (pairsOf uq ut) ≡ left Q T (seedAt qs ts bounds numbers k) (seedAt qs ts bounds numbers y)
+      unfolding left
+      left-same k g = rw seed-is (ap (λ (p : Pair). ltb (p .q) (leaf Q (lastPair (seedAt qs ts bounds numbers y) .q)) && ltb (p .t) (leaf T (lastPair (seedAt qs ts bounds numbers y) .t))) (last-at k g))
+
+      under-same : (k : ℕ) → k < m → under Q T (alone rq rt k) (pairsOf uq ut) ≡ under Q T (seedAt qs ts bounds numbers k) (seedAt qs ts bounds numbers y)
+      unfolding under
+      under-same k g = rw seed-is (ap (λ (p : Pair). fits Q T (seedAt qs ts bounds numbers y) (p .q) (p .t)) (last-at k g))
+
+      pub masks-same : masksOf Q T (alone rq rt) (pairsOf uq ut) y ≡ masksOf Q T (seedAt qs ts bounds numbers) (seedAt qs ts bounds numbers y) y
+      unfolding masksOf
+      masks-same =
+          ap₂ (λ (l m : ℕ). record { left = l; under = m })
+          (mask-same _ _ y (λ k g. left-same k (omega arith)))
+          (mask-same _ _ y (λ k g. under-same k (omega arith)))
+
+      -- The masks before y compose with the seed there.
+      module _ (lawful : Lawful Q T (seedAt qs ts bounds numbers) m) (lefts unders : List ℕ) (r : Related Q T (seedAt qs ts bounds numbers) y lefts unders) where
+        left-says : (j k : ℕ) → k < y → inMask (getD lefts k 0) j ≡ true → (j < k) × (left Q T (seedAt qs ts bounds numbers j) (seedAt qs ts bounds numbers k) ≡ true)
+        unfolding masksOf
+        left-says j k g t = mask-says (λ x. left Q T (seedAt qs ts bounds numbers x) (seedAt qs ts bounds numbers k)) j k (ap (λ (x : Masks). x .left) (r .are k g)) (rw t tt)
+
+        under-says : (j k : ℕ) → k < y → inMask (getD unders k 0) j ≡ true → (j < k) × (under Q T (seedAt qs ts bounds numbers j) (seedAt qs ts bounds numbers k) ≡ true)
+        unfolding masksOf
+        under-says j k g t = mask-says (λ x. under Q T (seedAt qs ts bounds numbers x) (seedAt qs ts bounds numbers k)) j k (ap (λ (x : Masks). x .under) (r .are k g)) (rw t tt)
+
+        pub composed : Composed Q T (alone rq rt) (pairsOf uq ut) lefts unders y
+        composed =
+            record {
+              lefts-long = omega (arith, r .lefts-long, h .listed-q .few);
+              unders-long = omega (arith, r .unders-long, h .listed-q .few);
+              left-left = λ j k g t f.
+                  let s = left-says j k g t in
+                  (omega arith, left-same j (omega arith) ∙ lawful .left-left j k y (omega arith) (omega arith) l (s .1) (sym (left-same k (omega arith)) ∙ f));
+              under-left = λ j k g t f.
+                  let s = under-says j k g t in
+                  (omega arith, left-same j (omega arith) ∙ lawful .under-left j k y (omega arith) (omega arith) l (s .1) (sym (left-same k (omega arith)) ∙ f));
+              under-under = λ j k g t f.
+                  let s = under-says j k g t in
+                  (omega arith, under-same j (omega arith) ∙ lawful .under-under j k y (omega arith) (omega arith) l (s .1) (sym (under-same k (omega arith)) ∙ f));
+              never-both = λ j g f d.
+                  lawful .never-both j y (omega arith) l (sym (left-same j (omega arith)) ∙ f) (sym (under-same j (omega arith)) ∙ d);
+            }
 
 -- The two masks of the seeds before one.
 pub masks-are : (Q T : List ℕ) (seed : ℕ → List Pair) (u : List Pair) (n : ℕ) {l m : ℕ} → l ≡ maskOf (λ x. left Q T (seed x) u) n → m ≡ maskOf (λ x. under Q T (seed x) u) n → _≡_ {A = Masks} (record { left = l; under = m }) (masksOf Q T seed u n)

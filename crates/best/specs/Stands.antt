@@ -1,14 +1,16 @@
 -- How seeds stand to one another: the masks of those left of one and of those under it. Assumes nothing.
 use mathlib.Core.Path.{_≡_}
+use mathlib.Core.Bool.{Bool, true, cond}
 use mathlib.Core.List.{List, [], _∷_}
-use Prim.Native.Nat.{ℕ, _+_, _≤_, _<_}
+use Prim.Native.Nat.{ℕ, _+_, _^_, _≤_, _<_}
+use lib.Bits.{bitOr}
 use lib.ListN.{length, getD}
 use Rattle.seed.specs.AreaList.{left, under}
 use Rattle.seed.specs.Pairs.{pairOf, pairsOf}
 use Rattle.seed.specs.Seed.{lastPair}
 use Rattle.seed.specs.Store.{between}
 use Rattle.seed.specs.declared.Pair.{Pair}
-use Rattle.optimum.specs.Key.{maskOf}
+use Rattle.optimum.specs.Key.{maskOf, inMask}
 use Rattle.best.specs.Order.{Bounded, lastOf}
 use Rattle.best.specs.declared.stands.Stand.{Stand}
 use Rattle.best.specs.declared.stands.Masks.{Masks}
@@ -53,6 +55,27 @@ pub record LastAt (uq ut rq rt : List ℕ) (y : ℕ) : Type 0 where
   pub long-q : y < length rq
   pub long-t : y < length rt
   pub is : pairOf (getD rq y 0) (getD rt y 0) ≡ lastPair (pairsOf uq ut)
+
+-- A mask, if it is on, with k and with the numbers of another mask.
+unfoldable pub widenedBy : ℕ → Bool → ℕ → ℕ → ℕ
+widenedBy mask on k more = cond on (bitOr (bitOr mask (2 ^ k)) more) mask
+
+-- The masks of the first y seeds tell more of how seeds stand to u: what is left of a seed that stands left of u, or under it, is left of u; and
+-- what is under a seed that stands under u is under u. None is both.
+pub record Composed (Q T : List ℕ) (seed : ℕ → List Pair) (u : List Pair) (lefts unders : List ℕ) (y : ℕ) : Type 0 where
+  pub lefts-long : y ≤ length lefts
+  pub unders-long : y ≤ length unders
+  pub left-left : (j k : ℕ) → k < y → inMask (getD lefts k 0) j ≡ true → left Q T (seed k) u ≡ true → (j < y) × (left Q T (seed j) u ≡ true)
+  pub under-left : (j k : ℕ) → k < y → inMask (getD unders k 0) j ≡ true → left Q T (seed k) u ≡ true → (j < y) × (left Q T (seed j) u ≡ true)
+  pub under-under : (j k : ℕ) → k < y → inMask (getD unders k 0) j ≡ true → under Q T (seed k) u ≡ true → (j < y) × (under Q T (seed j) u ≡ true)
+  pub never-both : (j : ℕ) → j < y → left Q T (seed j) u ≡ true → under Q T (seed j) u ≡ true → ⊥
+
+-- How left and under compose among the first m seeds.
+pub record Lawful (Q T : List ℕ) (seed : ℕ → List Pair) (m : ℕ) : Type 0 where
+  pub left-left : (x y z : ℕ) → x < m → y < m → z < m → left Q T (seed x) (seed y) ≡ true → left Q T (seed y) (seed z) ≡ true → left Q T (seed x) (seed z) ≡ true
+  pub under-left : (x y z : ℕ) → x < m → y < m → z < m → under Q T (seed x) (seed y) ≡ true → left Q T (seed y) (seed z) ≡ true → left Q T (seed x) (seed z) ≡ true
+  pub under-under : (x y z : ℕ) → x < m → y < m → z < m → under Q T (seed x) (seed y) ≡ true → under Q T (seed y) (seed z) ≡ true → under Q T (seed x) (seed z) ≡ true
+  pub never-both : (x y : ℕ) → x < m → y < m → left Q T (seed x) (seed y) ≡ true → under Q T (seed x) (seed y) ≡ true → ⊥
 
 -- The pairs of the seed whose number a list has at k.
 abbrev pub seedAt : List ℕ → List ℕ → List ℕ → List ℕ → ℕ → List Pair

@@ -1,17 +1,17 @@
 // How the seeds of a list stand to one another, by masks.
 use super::keys::bit;
+use super::keys::has;
 use super::order::last_of;
 use seed::Pair;
 use seed::leaf_at;
 use seed::stands::fits;
 ghost use mathlib.Core.Path.{_≡_};
-ghost use mathlib.Core.Bool.{cond};
 ghost use mathlib.Core.List.{[], _∷_};
-ghost use Prim.Native.Nat.{_+_, _^_, _<_};
+ghost use Prim.Native.Nat.{_<_};
 ghost use Rattle.seed.specs.Pairs.{pairsOf};
 ghost use Rattle.seed.specs.Seed.{lastPair};
 ghost use Rattle.best.specs.Order.{Bounded};
-ghost use Rattle.best.specs.Stands.{nodesOf, standOf, masksOf, alone, seedAt, Listed, Lasts, LastAt, Placed, Related};
+ghost use Rattle.best.specs.Stands.{nodesOf, standOf, masksOf, widenedBy, alone, seedAt, Listed, Lasts, LastAt, Composed, Placed, Lawful, Related};
 
 // Whether a seed stands left of another, and whether under it.
 pub struct Stand {
@@ -58,13 +58,13 @@ fn stands_to(lq: &[u8], lt: &[u8], uq: &[u8], ut: &[u8], u: Pair, s: Pair) -> St
     }
 }
 
-// The mask with the number x, if it is on.
-fn marked(mask: u64, on: bool, x: usize) -> u64
-    requires { ⌜ x < 64 ⌝ ∗ ⌜ mask < 2 ^ x ⌝ }
-    ensures { λ r. ⌜ r ≡ cond on (2 ^ x + mask) mask ⌝ }
+// The mask, if it is on, with k and with the numbers of another mask.
+fn widened(mask: u64, on: bool, k: usize, more: u64) -> u64
+    requires { ⌜ k < 64 ⌝ }
+    ensures { λ r. ⌜ r ≡ widenedBy mask on k more ⌝ }
 {
     if on {
-        return bit(x) + mask;
+        return mask | bit(k) | more;
     }
     mask
 }
@@ -83,26 +83,37 @@ fn lasts(nodes: &[u8], bounds: &[u16], numbers: &[u8], count: usize) -> [u8; 64]
     last
 }
 
-// How the seeds before place y stand to the seed of uq and ut, which is there. The last nodes of all are in rq and rt.
-fn masks_at(lq: &[u8], lt: &[u8], uq: &[u8], ut: &[u8], rq: &[u8], rt: &[u8], y: usize) -> Masks
-    requires { ⌜ LastAt (now uq) (now ut) (now rq) (now rt) y ⌝ }
+// How the seeds before place y stand to the seed of uq and ut, which is there. The last nodes of all are in rq and rt, and the masks of those
+// before y in lefts and unders: what is left of a seed or under it stands as it does, and is not looked at again.
+fn masks_at(
+    lq: &[u8],
+    lt: &[u8],
+    uq: &[u8],
+    ut: &[u8],
+    rq: &[u8],
+    rt: &[u8],
+    lefts: &[u64],
+    unders: &[u64],
+    y: usize,
+) -> Masks
+    requires { ⌜ LastAt (now uq) (now ut) (now rq) (now rt) y ⌝ ∗ ⌜ Composed (now lq) (now lt) (alone (now rq) (now rt)) (pairsOf (now uq) (now ut)) (now lefts) (now unders) y ⌝ }
     ensures { λ r. ⌜ r ≡ masksOf (now (lq .entry)) (now (lt .entry)) (alone (now (rq .entry)) (now (rt .entry))) (pairsOf (now (uq .entry)) (now (ut .entry))) y ⌝ }
 {
     let u = Pair { q: rq[y], t: rt[y] };
-    let mut left_mask = 0;
-    let mut under_mask = 0;
-    let mut x = 0;
-    while x < y {
-        let s = Pair { q: rq[x], t: rt[x] };
-        let stand = stands_to(lq, lt, uq, ut, u, s);
-        left_mask = marked(left_mask, stand.left, x);
-        under_mask = marked(under_mask, stand.under, x);
-        x += 1;
+    let mut left = 0;
+    let mut under = 0;
+    let mut x = y;
+    while 0 < x {
+        let k = x - 1;
+        if !has(left | under, k) {
+            let s = Pair { q: rq[k], t: rt[k] };
+            let stand = stands_to(lq, lt, uq, ut, u, s);
+            left = widened(left, stand.left, k, lefts[k] | unders[k]);
+            under = widened(under, stand.under, k, unders[k]);
+        }
+        x = k;
     }
-    Masks {
-        left: left_mask,
-        under: under_mask,
-    }
+    Masks { left, under }
 }
 
 // The masks of every seed of a list.
@@ -115,7 +126,7 @@ pub fn relate(
     numbers: &[u8],
     count: usize,
 ) -> Relation
-    requires { ⌜ Placed (now qs) (now ts) (now bounds) (now numbers) count ⌝ }
+    requires { ⌜ Placed (now qs) (now ts) (now bounds) (now numbers) count ⌝ ∗ ⌜ Lawful (now lq) (now lt) (seedAt (now qs) (now ts) (now bounds) (now numbers)) count ⌝ }
     ensures { λ r. ⌜ Related (now (lq .entry)) (now (lt .entry)) (seedAt (now (qs .entry)) (now (ts .entry)) (now (bounds .entry)) (now (numbers .entry))) count (r .lefts) (r .unders) ⌝ }
 {
     let rq = lasts(qs, bounds, numbers, count);
@@ -127,7 +138,7 @@ pub fn relate(
         let i = numbers[y] as usize;
         let uq = nodes_of(qs, bounds, i);
         let ut = nodes_of(ts, bounds, i);
-        let m = masks_at(lq, lt, uq, ut, &rq[..], &rt[..], y);
+        let m = masks_at(lq, lt, uq, ut, &rq[..], &rt[..], &lefts[..], &unders[..], y);
         lefts[y] = m.left;
         unders[y] = m.under;
         y += 1;

@@ -1,7 +1,7 @@
 -- `best::best_key` meets its contract: the seeds in order, how they stand, and the table on the scratch. Assumes nothing.
 use mathlib.Core.Path.{sym, _∙_}
 use Rattle.tree.proofs.Trees.{tree-length}
-use Rattle.best.proofs.Answers.{tree-fits, bounded-q, placed, table-posed, table-key}
+use Rattle.best.proofs.Answers.{tree-fits, bounded-q, placed, lawful, table-posed, table-key}
 use borrow.Author.Needs.{needs}
 use Rattle.best.proofs.best_key.Statement.{statement}
 use Rattle.best.proofs.best_key.Tie as tie
@@ -40,7 +40,7 @@ slice-aggregate-relate-6 : tie.Need-slice-aggregate-relate-6
 slice-aggregate-relate-6 c = search needs
 
 relate-requires : tie.Need-relate-requires
-relate-requires c κs = placed _ _ (c .before .before .before .before .before .before .before .before .before .before .before .before .before .before .before .before .pre .0 .kept .laid) _ _ _ _ (c .before .before .before .before .before .before .before .ordered .ensures)
+relate-requires c κs = (placed _ _ (c .before .before .before .before .before .before .before .before .before .before .before .before .before .before .before .before .pre .0 .kept .laid) _ _ _ _ (c .before .before .before .before .before .before .before .ordered .ensures), lawful _ _ _ _ _ (c .before .before .before .before .before .before .before .before .before .before .before .before .before .before .before .before .args .present) (c .before .before .before .before .before .before .before .before .before .before .before .before .before .before .before .before .pre .0) _ _ (c .before .before .before .before .before .before .before .ordered .ensures))
 
 slice-aggregate-solve : tie.Need-slice-aggregate-solve
 slice-aggregate-solve c = search needs

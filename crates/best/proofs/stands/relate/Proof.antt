@@ -4,7 +4,7 @@ use mathlib.Core.Path.{_≡_, _∙_}
 use native.Mathlib.Omega.{arith}
 use borrow.Author.Needs.{needs}
 use Rattle.best.specs.Stands.{seedAt, Related}
-use Rattle.best.proofs.Standing.{last-there, masks-same, related-start, related-turn}
+use Rattle.best.proofs.Standing.{last-there, masks-same, composed, related-start, related-turn}
 use Rattle.best.proofs.stands.relate.Statement.{statement}
 use Rattle.best.proofs.stands.relate.Tie as tie
 
@@ -15,25 +15,25 @@ abbrev μ-loop : tie.MeasureT-loop
 μ-loop lq lt qs ts bounds numbers count rq rt lefts₀ unders₀ y₀ lefts unders y = count - y
 
 lasts-requires : tie.Need-lasts-requires Inv-loop μ-loop
-lasts-requires c κs = c .before .before .before .before .before .before .pre .listed-q
+lasts-requires c κs = c .before .before .before .before .before .before .pre .0 .listed-q
 
 lasts-requires-2 : tie.Need-lasts-requires-2 Inv-loop μ-loop
-lasts-requires-2 c κs = c .before .before .before .before .before .before .before .pre .listed-t
+lasts-requires-2 c κs = c .before .before .before .before .before .before .before .pre .0 .listed-t
 
 loop-holds : tie.Need-loop-holds Inv-loop μ-loop
 loop-holds c = (omega arith, related-start _ _ _ _ _ (search needs) (search needs))
 
 shared-slice-read-i : tie.Need-shared-slice-read-i Inv-loop μ-loop
-shared-slice-read-i c = omega (arith, c .before .before .before .before .before .before .before .before .before .before .before .pre .listed-q .long)
+shared-slice-read-i c = omega (arith, c .before .before .before .before .before .before .before .before .before .before .before .pre .0 .listed-q .long)
 
 cast-i : tie.Need-cast-i Inv-loop μ-loop
 cast-i c = omega (arith, (c .shared-slice-known7 .given) (c .before .before .loop .y))
 
 nodes-of-requires : tie.Need-nodes-of-requires Inv-loop μ-loop
-nodes-of-requires c κs = (c .before .before .before .before .before .before .before .before .before .before .before .pre .listed-q .bounded) (c .before .before .loop .y) (c .before .loop-test .taken)
+nodes-of-requires c κs = (c .before .before .before .before .before .before .before .before .before .before .before .pre .0 .listed-q .bounded) (c .before .before .loop .y) (c .before .loop-test .taken)
 
 nodes-of-requires-2 : tie.Need-nodes-of-requires-2 Inv-loop μ-loop
-nodes-of-requires-2 c κs = (c .before .before .before .before .before .before .before .before .before .before .before .before .pre .listed-t .bounded) (c .before .before .before .loop .y) (c .before .before .loop-test .taken)
+nodes-of-requires-2 c κs = (c .before .before .before .before .before .before .before .before .before .before .before .before .pre .0 .listed-t .bounded) (c .before .before .before .loop .y) (c .before .before .loop-test .taken)
 
 slice-aggregate-masks-at : tie.Need-slice-aggregate-masks-at Inv-loop μ-loop
 slice-aggregate-masks-at c = search needs
@@ -41,29 +41,35 @@ slice-aggregate-masks-at c = search needs
 slice-aggregate-masks-at-2 : tie.Need-slice-aggregate-masks-at-2 Inv-loop μ-loop
 slice-aggregate-masks-at-2 c = search needs
 
+slice-aggregate-masks-at-3 : tie.Need-slice-aggregate-masks-at-3 Inv-loop μ-loop
+slice-aggregate-masks-at-3 c = search needs
+
+slice-aggregate-masks-at-4 : tie.Need-slice-aggregate-masks-at-4 Inv-loop μ-loop
+slice-aggregate-masks-at-4 c = search needs
+
 masks-at-requires : tie.Need-masks-at-requires Inv-loop μ-loop
-masks-at-requires c κs = last-there _ _ _ _ _ (c .before .before .before .before .before .before .before .before .before .before .before .before .before .before .before .pre) _ _ (c .before .before .before .before .before .before .before .before .lasts .ensures) (c .before .before .before .before .before .before .before .lasts2 .ensures) _ (c .before .before .before .before .before .loop-test .taken) (c .before .before .before .nodes-of .ensures) (c .before .before .nodes-of2 .ensures)
+masks-at-requires c κs = (last-there _ _ _ _ _ (c .before .before .before .before .before .before .before .before .before .before .before .before .before .before .before .before .before .pre .0) _ _ (c .before .before .before .before .before .before .before .before .before .before .lasts .ensures) (c .before .before .before .before .before .before .before .before .before .lasts2 .ensures) _ (c .before .before .before .before .before .before .before .loop-test .taken) (c .before .before .before .before .before .nodes-of .ensures) (c .before .before .before .before .nodes-of2 .ensures), composed _ _ _ _ _ (c .before .before .before .before .before .before .before .before .before .before .before .before .before .before .before .before .before .pre .0) _ _ (c .before .before .before .before .before .before .before .before .before .before .lasts .ensures) (c .before .before .before .before .before .before .before .before .before .lasts2 .ensures) _ (c .before .before .before .before .before .before .before .loop-test .taken) (c .before .before .before .before .before .nodes-of .ensures) (c .before .before .before .before .nodes-of2 .ensures) _ _ (c .before .before .before .before .before .before .before .before .before .before .before .before .before .before .before .before .before .pre .1) _ _ (c .before .before .before .before .before .before .before .before .loop .inv .1))
 
 mul-lefts : tie.Need-mul-lefts Inv-loop μ-loop
-mul-lefts c = omega (arith, c .before .before .before .before .before .before .before .before .before .before .before .before .before .before .before .before .pre .listed-q .few)
+mul-lefts c = omega (arith, c .before .before .before .before .before .before .before .before .before .before .before .before .before .before .before .before .before .before .pre .0 .listed-q .few)
 
 array-write-lefts : tie.Need-array-write-lefts Inv-loop μ-loop
-array-write-lefts c = omega (arith, c .before .before .before .before .before .before .before .before .before .before .before .before .before .before .before .before .pre .listed-q .few)
+array-write-lefts c = omega (arith, c .before .before .before .before .before .before .before .before .before .before .before .before .before .before .before .before .before .before .pre .0 .listed-q .few)
 
 mul-unders : tie.Need-mul-unders Inv-loop μ-loop
-mul-unders c = omega (arith, c .before .before .before .before .before .before .before .before .before .before .before .before .before .before .before .before .pre .listed-q .few)
+mul-unders c = omega (arith, c .before .before .before .before .before .before .before .before .before .before .before .before .before .before .before .before .before .before .pre .0 .listed-q .few)
 
 array-write-unders : tie.Need-array-write-unders Inv-loop μ-loop
-array-write-unders c = omega (arith, c .before .before .before .before .before .before .before .before .before .before .before .before .before .before .before .before .pre .listed-q .few)
+array-write-unders c = omega (arith, c .before .before .before .before .before .before .before .before .before .before .before .before .before .before .before .before .before .before .pre .0 .listed-q .few)
 
 add-y : tie.Need-add-y Inv-loop μ-loop
-add-y c = omega (arith, c .before .before .before .before .before .before .before .before .before .before .before .before .before .before .before .before .pre .listed-q .few)
+add-y c = omega (arith, c .before .before .before .before .before .before .before .before .before .before .before .before .before .before .before .before .before .before .pre .0 .listed-q .few)
 
 loop-less : tie.Need-loop-less Inv-loop μ-loop
 loop-less c = omega arith
 
 loop-again : tie.Need-loop-again Inv-loop μ-loop
-loop-again c = (omega arith, related-turn _ _ _ _ _ _ _ (omega (arith, c .before .before .before .before .before .before .before .before .before .before .before .before .before .before .before .before .pre .listed-q .few)) (c .before .before .before .before .before .before .before .loop .inv .1) (c .masks-at .ensures ∙ masks-same _ _ _ _ _ (c .before .before .before .before .before .before .before .before .before .before .before .before .before .before .before .before .pre) _ _ (c .before .before .before .before .before .before .before .before .before .lasts .ensures) (c .before .before .before .before .before .before .before .before .lasts2 .ensures) _ (c .before .before .before .before .before .before .loop-test .taken) (c .before .before .before .before .nodes-of .ensures) (c .before .before .before .nodes-of2 .ensures) _ _))
+loop-again c = (omega arith, related-turn _ _ _ _ _ _ _ (omega (arith, c .before .before .before .before .before .before .before .before .before .before .before .before .before .before .before .before .before .before .pre .0 .listed-q .few)) (c .before .before .before .before .before .before .before .before .before .loop .inv .1) (c .masks-at .ensures ∙ masks-same _ _ _ _ _ (c .before .before .before .before .before .before .before .before .before .before .before .before .before .before .before .before .before .before .pre .0) _ _ (c .before .before .before .before .before .before .before .before .before .before .before .lasts .ensures) (c .before .before .before .before .before .before .before .before .before .before .lasts2 .ensures) _ (c .before .before .before .before .before .before .before .before .loop-test .taken) (c .before .before .before .before .before .before .nodes-of .ensures) (c .before .before .before .before .before .nodes-of2 .ensures) _ _))
 
 returns : tie.Need-returns Inv-loop μ-loop
 returns c = let x : (c .before .loop .y) ≡ (c .before .before .before .before .before .before .before .before .before .before .args .count) = omega arith in rw x at (c .before .loop .inv .1)
@@ -83,6 +89,8 @@ relate-spec =
     nodes-of-requires-2
     slice-aggregate-masks-at
     slice-aggregate-masks-at-2
+    slice-aggregate-masks-at-3
+    slice-aggregate-masks-at-4
     masks-at-requires
     mul-lefts
     array-write-lefts
