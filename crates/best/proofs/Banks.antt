@@ -1,17 +1,24 @@
 -- A key that is put into a bank of the scratch, and the search for the best of a bank. Assumes nothing.
-use mathlib.Core.Path.{_≡_, refl, ap, ap₂, _∙_}
+use mathlib.Core.Path.{_≡_, refl, sym, ap, ap₂, _∙_}
 use mathlib.Core.Bool.{Bool, true, false}
 use mathlib.Core.List.{List}
 use mathlib.Core.Logic.{_≢_, inl, inr}
-use Prim.Native.Nat.{ℕ, zero, suc, _+_, _≤_, _<_}
+use Prim.Native.Nat.{ℕ, zero, suc, _+_, _^_, _≤_, _<_}
 use native.Mathlib.Numerals.{add-one}
 use native.Mathlib.Omega.{arith}
+use lib.Bits.{bitOr}
+use lib.Dec.{T}
 use lib.ListN.{length, getD, set, length-set}
 use lib.Seq.{getD-set-same, getD-set-other}
 use Rattle.tree.proofs.Leaves.{lt-or-le}
-use Rattle.optimum.specs.Key.{Key, empty, better}
+use Rattle.optimum.specs.Key.{Key, empty, better, inMask}
 use Rattle.optimum.specs.Table.{maxBelow, stored}
-use Rattle.best.specs.Table.{keyAt}
+use Rattle.optimum.proofs.Booleans.{T-eq}
+use Rattle.optimum.proofs.Keys.{_≼_, ≼-refl, ≼-trans, ≼-antisym, better-l, better-r, better-ind}
+use Rattle.optimum.proofs.Maxima.{max-empty, max-upper, max-least}
+use Rattle.best.specs.Table.{keyAt, rows, minus, marked, Rising}
+use Rattle.best.proofs.Bits.{in-either, alone-is, minus-from, minus-gone}
+use Rattle.best.proofs.Members.{nothing}
 
 module _ (xs ys : List ℕ) (base k t m : ℕ) (e : ys ≡ set (set xs (base + k) t) (base + 64 + k) m) where
   pub put-long : length ys ≡ length xs
@@ -55,3 +62,50 @@ max-past p d k (suc n) h f =
 pub max-turn : (p : ℕ → Bool) (d : ℕ → Key) (k n : ℕ) {a b r : Key} → k ≤ n → ((j : ℕ) → k ≤ j → j < n → p j ≡ false) → p n ≡ true → a ≡ maxBelow p d k → b ≡ d n → r ≡ better a b → r ≡ maxBelow p d (n + 1)
 unfolding maxBelow
 max-turn p d k n h f t e g q = rw (add-one n, t, ← max-past p d k n h f, ← e, ← g) q
+
+-- ---- the best of a mask, of which the items in rest are still to be looked at
+
+pub record Searched (mask : ℕ) (d : ℕ → Key) (rest : ℕ) (best : Key) : Type 0 where
+  pub of : (j : ℕ) → inMask rest j ≡ true → inMask mask j ≡ true
+  pub seen : (j : ℕ) → j < 64 → T (inMask mask j) → inMask rest j ≡ false → d j ≼ best
+  pub clipped : empty ≼ best
+  pub reached : best ≼ maxBelow (inMask mask) d 64
+
+pub search-start : (mask : ℕ) (d : ℕ → Key) → Searched mask d mask (stored 0 0)
+unfolding empty
+search-start mask d =
+    record {
+      of = λ j t. t;
+      seen = λ j b t e. absurd (rw e at t);
+      clipped = ≼-refl empty;
+      reached = max-empty (inMask mask) d 64;
+    }
+
+module _ {xs lefts : List ℕ} {mask : ℕ} (r : Rising xs lefts mask) {rest : ℕ} {best : Key} (s : Searched mask (keyAt xs rows) rest best) where
+  abbrev d : ℕ → Key
+  d = keyAt xs rows
+
+  -- Item k is looked at, and what is left of it need not be.
+  pub search-turn : (k : ℕ) → k < 64 → inMask rest k ≡ true → {key best′ : Key} {rest′ : ℕ} → key ≡ d k → best′ ≡ better best key → rest′ ≡ minus rest (bitOr (2 ^ k) (getD lefts k 0)) → Searched mask d rest′ best′
+  search-turn k few on {rest′ = rest′} e f g =
+      rw (f, e)
+      (record {
+        of = λ j t. s .of j (minus-from rest (bitOr (2 ^ k) (getD lefts k 0)) j (sym (ap (λ (m : ℕ). inMask m j) g) ∙ t));
+        seen = λ j b t z.
+            elim (minus-gone rest (bitOr (2 ^ k) (getD lefts k 0)) j b (sym (ap (λ (m : ℕ). inMask m j) g) ∙ z)) [
+              | inl u ↦ ≼-trans (s .seen j b t u) (better-l best (d k))
+              | inr u ↦ elim (in-either (2 ^ k) (getD lefts k 0) j u) [ inl v ↦ rw (alone-is k j v) (better-r best (d k)) | inr v ↦ ≼-trans (lower j t (rw v tt)) (better-r best (d k)) ]
+            ];
+        clipped = ≼-trans (s .clipped) (better-l best (d k));
+        reached = better-ind (λ x. x ≼ maxBelow (inMask mask) d 64) best (d k) (s .reached) (max-upper (inMask mask) d 64 k few there);
+      })
+    where
+      there : T (inMask mask k)
+      there = rw (s .of k on) tt
+
+      lower : (j : ℕ) → T (inMask mask j) → T (marked lefts j k) → d j ≼ d k
+      lower j t u = rw (r .rises j k t there u) at (better-l (d j) (d k))
+
+  -- All are looked at.
+  pub search-end : rest ≡ 0 → best ≡ maxBelow (inMask mask) d 64
+  search-end z = ≼-antisym (s .reached) (max-least (inMask mask) d 64 best (s .clipped) (λ j b t. s .seen j b t (ap (λ (m : ℕ). inMask m j) z ∙ nothing j)))

@@ -115,6 +115,7 @@ module _ {Q T′ : List ℕ} (tree-q : Nested Q) (tree-t : Nested T′) (pairs :
           lefts-long = omega (arith, r .lefts-long, o .few);
           unders-long = omega (arith, r .unders-long, o .few);
           numbers-long = omega (arith, o .long, o .few);
+          before = λ j k b t. left-says j k b t .0;
           laws = table-laws;
           limited = record {
             numbered = places 64 few;

@@ -7,51 +7,74 @@ use Prim.Native.Nat.{ℕ, _+_, _^_, _≤_, _<_}
 use native.Mathlib.Numerals.{add-one}
 use native.Mathlib.Omega.{arith}
 use lib.Bits.{bitAnd}
-use lib.Dec.{T}
+use lib.Dec.{T, not-T}
 use lib.IntN.{ℤ}
 use lib.ListN.{length, getD, set}
 use Rattle.tree.proofs.Leaves.{lt-or-le}
 use Rattle.optimum.specs.Key.{Key, empty, _⊕_, better, inMask, seedKey}
-use Rattle.optimum.specs.Table.{Items, bestOf, chainable, maxBelow, Filled, Row, stored}
+use Rattle.optimum.specs.Table.{Items, bestOf, chainable, withUnder, maxBelow, Filled, Row, stored}
+use Rattle.optimum.proofs.Booleans.{T-neq, and-l, and-r}
+use Rattle.optimum.proofs.Keys.{better-l, better-right}
+use Rattle.optimum.proofs.Maxima.{max-cong}
 use Rattle.optimum.proofs.StoredKeys.{stored-add}
 use Rattle.optimum.proofs.Chains.{best-cong}
 use Rattle.optimum.proofs.Split.{Down, down-under}
-use Rattle.optimum.proofs.Recurrence.{row-next, row-best, filled-next}
+use Rattle.optimum.proofs.Recurrence.{row-next, row-rises, row-best, filled-next}
 use Rattle.optimum.proofs.Bounds.{entry-small, best-small, under-small}
 use Rattle.best.specs.Best.{scoreAt}
-use Rattle.best.specs.Table.{keyAt, items, rows, marked, itemsOf, entryOf, EntryRoom, RowRoom, RowFilled, Posed, ItemsFilled}
+use Rattle.best.specs.Table.{keyAt, items, rows, marked, itemsOf, Rising, entryOf, EntryRoom, RowRoom, RowFilled, Posed, ItemsFilled}
 use Rattle.best.proofs.Bits.{common, all-ones}
-use Rattle.best.proofs.Banks.{put-long, put-beside, put-here, put-before}
+use Rattle.best.proofs.Banks.{put-long, put-beside, put-here, put-before, max-start, max-past, max-turn}
 
 both : (lefts : List ℕ) (row k : ℕ) → (λ j. inMask row j && marked lefts j k) ≡ inMask (bitAnd row (getD lefts k 0))
 both lefts row k = fun-ext (λ j. sym (common row (getD lefts k 0) j))
 
 -- ---- one row
 
-pub row-start : (xs lefts : List ℕ) (row : ℕ) → RowFilled xs lefts row 0 xs
+pub row-start : (xs lefts : List ℕ) (row : ℕ) → RowFilled xs lefts row 0 xs (stored 0 0)
 unfolding Row
-row-start xs lefts row = record { long = refl; row-is = λ k b. absurd (omega arith); kept = λ i b. refl }
+row-start xs lefts row = record { long = refl; row-is = λ k b. absurd (omega arith); kept = λ i b. refl; best-is = max-start _ _ }
 
-module _ (xs lefts : List ℕ) (row n : ℕ) (h : RowRoom xs lefts row n) (k : ℕ) (b : k < n) (ys : List ℕ) (f : RowFilled xs lefts row k ys) where
+module _ (xs lefts : List ℕ) (row n : ℕ) (h : RowRoom xs lefts row n) (k : ℕ) (b : k < n) (ys : List ℕ) {best : Key} (f : RowFilled xs lefts row k ys best) where
   -- The entry by the row so far.
-  entry-is : entryOf ys row (getD lefts k 0) k ≡ keyAt xs items k ⊕ maxBelow (λ j. inMask row j && marked lefts j k) (keyAt ys rows) k
+  entry-is : entryOf ys lefts row k ≡ keyAt xs items k ⊕ maxBelow (λ j. inMask row j && marked lefts j k) (keyAt ys rows) k
   unfolding entryOf
-  entry-is =
-      ap₂ _⊕_
-      (ap₂ stored (f .kept (items + k) (omega (arith, h .few))) (f .kept (items + 64 + k) (omega (arith, h .few))))
-      (ap (λ p. maxBelow p (keyAt ys rows) k) (sym (both lefts row k)))
+  entry-is = ap (λ x. x ⊕ maxBelow (λ j. inMask row j && marked lefts j k) (keyAt ys rows) k) (ap₂ stored (f .kept (items + k) (omega (arith, h .few))) (f .kept (items + 64 + k) (omega (arith, h .few))))
 
-  pub row-room : T (inMask row k) → EntryRoom ys row (getD lefts k 0) k
+  -- What is left of item k in the row.
+  in-both : (j : ℕ) → T (inMask (bitAnd row (getD lefts k 0)) j) → T (inMask row j && marked lefts j k)
+  in-both j t = rw (common row (getD lefts k 0) j) at t
+
+  in-row : (j : ℕ) → T (inMask (bitAnd row (getD lefts k 0)) j) → T (inMask row j)
+  in-row j t = and-l (inMask row j) (marked lefts j k) (in-both j t)
+
+  in-left : (j : ℕ) → T (inMask (bitAnd row (getD lefts k 0)) j) → j < k
+  in-left j t = h .before j k b (and-r (inMask row j) (marked lefts j k) (in-both j t))
+
+  rising : Rising ys lefts (bitAnd row (getD lefts k 0))
+  rising =
+      record {
+        long = omega (arith, h .long, f .long);
+        reach = λ j t. omega (arith, in-left j t, h .lefts-long);
+        rises = λ i j s t l.
+            better-right
+            (row-rises (marked lefts) (inMask row) (keyAt xs items) (keyAt ys rows) k (f .row-is) i j (h .before i j (omega (arith, in-left j t)) l) (in-left j t)
+            (rw (h .clipped j (omega (arith, in-left j t))) at (better-l empty (keyAt xs items j))) (in-row i s) (in-row j t) l);
+      }
+
+  pub row-room : T (inMask row k) → EntryRoom ys lefts row k
   row-room on =
       record {
         few = omega (arith, h .few);
-        long = omega (arith, h .long, f .long);
+        inside = omega (arith, h .lefts-long);
+        before = λ j. h .before j k b;
+        rising = rising;
         small = λ u m e. h .small (keyAt ys rows) k b on (f .row-is) u m (sym entry-is ∙ e);
       }
 
   -- One entry more.
-  pub row-turn : (zs : List ℕ) (t m : ℕ) → stored t m ≡ entryOf ys row (getD lefts k 0) k → zs ≡ set (set ys (rows + k) t) (rows + 64 + k) m → RowFilled xs lefts row (k + 1) zs
-  row-turn zs t m e g =
+  pub row-turn : inMask row k ≡ true → (zs : List ℕ) (t m : ℕ) {best′ : Key} → stored t m ≡ entryOf ys lefts row k → zs ≡ set (set ys (rows + k) t) (rows + 64 + k) m → best′ ≡ better best (stored t m) → RowFilled xs lefts row (k + 1) zs best′
+  row-turn on zs t m e g q =
       record {
         long = put-long ys zs rows k t m g ∙ f .long;
         row-is =
@@ -59,6 +82,10 @@ module _ (xs lefts : List ℕ) (row n : ℕ) (h : RowRoom xs lefts row n) (k : �
             (row-next (marked lefts) (inMask row) (keyAt xs items) (keyAt ys rows) (keyAt zs rows) k (f .row-is)
             (put-before ys zs rows k t m g few room) (λ on. put-here ys zs rows k t m g few room ∙ e ∙ entry-is));
         kept = λ i a. put-beside ys zs rows k t m g i (λ x. omega arith) (λ x. omega arith) ∙ f .kept i a;
+        best-is =
+            max-turn (inMask row) (keyAt zs rows) k k (omega arith) (λ j a c. absurd (omega arith)) on
+            (f .best-is ∙ max-cong (inMask row) (keyAt ys rows) (keyAt zs rows) k (λ j a. sym (put-before ys zs rows k t m g few room j a)))
+            (sym (put-here ys zs rows k t m g few room)) q;
       }
     where
       few : k < 64
@@ -68,25 +95,35 @@ module _ (xs lefts : List ℕ) (row n : ℕ) (h : RowRoom xs lefts row n) (k : �
       room = omega (arith, h .long, f .long)
 
 -- Items that the mask has not change nothing.
-pub row-past : (xs lefts : List ℕ) (row k n : ℕ) (ys : List ℕ) → RowFilled xs lefts row k ys → ((j : ℕ) → k ≤ j → j < n → inMask row j ≡ false) → RowFilled xs lefts row n ys
+pub row-past : (xs lefts : List ℕ) (row k n : ℕ) (ys : List ℕ) {best : Key} → RowFilled xs lefts row k ys best → k ≤ n → ((j : ℕ) → k ≤ j → j < n → inMask row j ≡ false) → RowFilled xs lefts row n ys best
 unfolding Row
-row-past xs lefts row k n ys f none =
+row-past xs lefts row k n ys f low none =
     record {
       long = f .long;
       row-is = λ j b t. elim (lt-or-le j k) [ inl g ↦ f .row-is j g t | inr g ↦ absurd (rw (none j g b) at t) ];
       kept = f .kept;
+      best-is = f .best-is ∙ max-past (inMask row) (keyAt ys rows) k n low none;
     }
 
 -- An entry that is small is added with no overflow.
-pub entry-room : (xs : List ℕ) (row left k : ℕ) → EntryRoom xs row left k → (t m t′ m′ : ℕ) → stored t m ≡ keyAt xs items k → stored t′ m′ ≡ maxBelow (inMask (bitAnd row left)) (keyAt xs rows) k → (t + t′ < 2 ^ 64) × (m + m′ < 2 ^ 64)
-unfolding entryOf
-entry-room xs row left k h t m t′ m′ e f =
-    let s = h .small (t + t′) (m + m′) (ap₂ _⊕_ (sym e) (sym f) ∙ stored-add t m t′ m′) in
-    (omega (arith, s .total), s .mask)
+pub entry-best : (xs lefts : List ℕ) (row k : ℕ) → EntryRoom xs lefts row k → maxBelow (inMask (bitAnd row (getD lefts k 0))) (keyAt xs rows) 64 ≡ maxBelow (λ j. inMask row j && marked lefts j k) (keyAt xs rows) k
+entry-best xs lefts row k h =
+    sym (max-past (inMask (bitAnd row (getD lefts k 0))) (keyAt xs rows) k 64 (omega (arith, h .few)) past)
+    ∙ ap (λ p. maxBelow p (keyAt xs rows) k) (sym (both lefts row k))
+  where
+    past : (j : ℕ) → k ≤ j → j < 64 → inMask (bitAnd row (getD lefts k 0)) j ≡ false
+    past j a b = common row (getD lefts k 0) j ∙ T-neq (not-T (inMask row j && marked lefts j k) (λ t. omega (arith, h .before j (and-r (inMask row j) (marked lefts j k) t))))
 
-pub entry-joined : (xs : List ℕ) (row left k : ℕ) {a b r : Key} → a ≡ keyAt xs items k → b ≡ maxBelow (inMask (bitAnd row left)) (keyAt xs rows) k → r ≡ a ⊕ b → r ≡ entryOf xs row left k
-unfolding entryOf
-entry-joined xs row left k e f g = rw (← e, ← f) g
+module _ (xs lefts : List ℕ) (row k : ℕ) (h : EntryRoom xs lefts row k) {t m t′ m′ : ℕ} (e : stored t m ≡ keyAt xs items k) (f : stored t′ m′ ≡ maxBelow (inMask (bitAnd row (getD lefts k 0))) (keyAt xs rows) 64) where
+  sum-is : stored t m ⊕ stored t′ m′ ≡ entryOf xs lefts row k
+  unfolding entryOf
+  sum-is = ap₂ _⊕_ e (f ∙ entry-best xs lefts row k h)
+
+  pub entry-room : (t + t′ < 2 ^ 64) × (m + m′ < 2 ^ 64)
+  entry-room = let s = h .small (t + t′) (m + m′) (sym sum-is ∙ stored-add t m t′ m′) in (omega (arith, s .total), s .mask)
+
+  pub entry-joined : {r : Key} → r ≡ stored t m ⊕ stored t′ m′ → r ≡ entryOf xs lefts row k
+  entry-joined g = g ∙ sum-is
 
 -- ---- the table
 
@@ -97,16 +134,19 @@ module _ (lefts unders numbers : List ℕ) (scores : List ℤ) (n : ℕ) (h : Po
   -- A row over the first y items, of those in a mask that has with an item all under it.
   module _ (row : ℕ) (dp : Down S (inMask row) n) (y : ℕ) (b : y ≤ n) (xs : List ℕ) (f : Filled S (keyAt xs items) y) where
     room : 256 ≤ length xs → RowRoom xs lefts row y
+    unfolding Filled
     room long =
         record {
           few = omega (arith, h .limited .items);
           lefts-long = omega (arith, h .lefts-long);
           long = long;
+          before = λ j k a. h .before j k (omega arith);
+          clipped = λ k a. rw (f k a) (better-right (better-l empty (withUnder S k)));
           small = λ d k a on r t m. entry-small S n 64 (scoreAt scores) (λ k. getD numbers k 0) (h .limited) (h .laws) (inMask row) dp (keyAt xs items) d y k b a on f r t m;
         }
 
-    top : (ys : List ℕ) → RowFilled xs lefts row y ys → (t m : ℕ) → stored t m ≡ maxBelow (inMask row) (keyAt ys rows) y → stored t m ≡ bestOf S (inMask row) y
-    top ys g t m e = e ∙ row-best S n (h .laws) (inMask row) dp (keyAt xs items) (keyAt ys rows) y b f (g .row-is)
+    top : (ys : List ℕ) {best : Key} → RowFilled xs lefts row y ys best → best ≡ bestOf S (inMask row) y
+    top ys g = g .best-is ∙ row-best S n (h .laws) (inMask row) dp (keyAt xs items) (keyAt ys rows) y b f (g .row-is)
 
   pub items-start : (xs : List ℕ) → ItemsFilled S xs 0 xs
   unfolding Filled
@@ -118,9 +158,9 @@ module _ (lefts unders numbers : List ℕ) (scores : List ℤ) (n : ℕ) (h : Po
       pub item-room : RowRoom xs lefts (getD unders y 0) y
       item-room = room (getD unders y 0) (down-under S n (h .laws) y b) y (omega arith) xs (f .filled) (omega (arith, f .long))
 
-      module _ (ys : List ℕ) (g : RowFilled xs lefts (getD unders y 0) y ys) (t m : ℕ) (e : stored t m ≡ maxBelow (inMask (getD unders y 0)) (keyAt ys rows) y) where
+      module _ (ys : List ℕ) (t m : ℕ) (g : RowFilled xs lefts (getD unders y 0) y ys (stored t m)) where
         under-is : bestOf S (λ x. S .under x y) y ≡ stored t m
-        under-is = sym (top (getD unders y 0) (down-under S n (h .laws) y b) y (omega arith) xs (f .filled) ys g t m e)
+        under-is = sym (top (getD unders y 0) (down-under S n (h .laws) y b) y (omega arith) xs (f .filled) ys g)
 
         pub item-small : (t ≤ 64000000) × (2 ^ getD numbers y 0 + m < 2 ^ 64)
         item-small = (
@@ -137,7 +177,7 @@ module _ (lefts unders numbers : List ℕ) (scores : List ℤ) (n : ℕ) (h : Po
                   rw (add-one y)
                   (filled-next S n (h .laws) (keyAt xs items) (keyAt zs items) (keyAt ys rows) y b (f .filled) (g .row-is)
                   (λ k a. put-before ys zs items y t′ m′ q few wide k a ∙ ap₂ stored (g .kept (items + k) (omega (arith, few))) (g .kept (items + 64 + k) (omega (arith, few))))
-                  (put-here ys zs items y t′ m′ q few wide ∙ c ∙ ap (λ x. better empty (S .worth y ⊕ x)) e));
+                  (put-here ys zs items y t′ m′ q few wide ∙ c ∙ ap (λ x. better empty (S .worth y ⊕ x)) (g .best-is)));
             }
           where
             few : y < 64
@@ -160,5 +200,5 @@ module _ (lefts unders numbers : List ℕ) (scores : List ℤ) (n : ℕ) (h : Po
       pub all-room : RowRoom xs lefts all n
       all-room = room all all-down n (omega arith) xs (f .filled) (omega (arith, f .long))
 
-      pub all-best : (ys : List ℕ) → RowFilled xs lefts all n ys → (t m : ℕ) → stored t m ≡ maxBelow (inMask all) (keyAt ys rows) n → stored t m ≡ bestOf S (λ x. true) n
-      all-best ys g t m e = top all all-down n (omega arith) xs (f .filled) ys g t m e ∙ best-cong (chainable S) (S .worth) (inMask all) (λ x. true) n has-all
+      pub all-best : (ys : List ℕ) {best : Key} → RowFilled xs lefts all n ys best → best ≡ bestOf S (λ x. true) n
+      all-best ys g = top all all-down n (omega arith) xs (f .filled) ys g ∙ best-cong (chainable S) (S .worth) (inMask all) (λ x. true) n has-all

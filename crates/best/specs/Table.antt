@@ -1,14 +1,14 @@
 -- The table on the scratch: keys in banks of 64 totals and 64 masks, over items of which masks say what stands left of them and under them.
 -- Assumes nothing.
 use mathlib.Core.Path.{_≡_}
-use mathlib.Core.Bool.{Bool, true, false, _&&_}
+use mathlib.Core.Bool.{Bool, true, false, not, _&&_}
 use mathlib.Core.List.{List}
 use Prim.Native.Nat.{ℕ, _+_, _≤_, _<_}
 use lib.Bits.{bitAnd}
 use lib.Dec.{T}
 use lib.IntN.{ℤ}
 use lib.ListN.{length, getD}
-use Rattle.optimum.specs.Key.{Key, _⊕_, seedKey, inMask}
+use Rattle.optimum.specs.Key.{Key, empty, _⊕_, better, seedKey, maskOf, inMask}
 use Rattle.optimum.specs.Table.{Items, Laws, Limited, maxBelow, Filled, Row, stored, Small}
 use Rattle.best.specs.Best.{scoreAt}
 
@@ -29,6 +29,16 @@ pub record Lowest (mask k : ℕ) : Type 0 where
   pub has : inMask mask k ≡ true
   pub none : (j : ℕ) → j < k → inMask mask j ≡ false
 
+-- A mask has k and no number above k.
+pub record Highest (mask k : ℕ) : Type 0 where
+  pub few : k < 64
+  pub has : inMask mask k ≡ true
+  pub none : (j : ℕ) → k < j → inMask mask j ≡ false
+
+-- A mask without the numbers of another.
+unfoldable pub minus : ℕ → ℕ → ℕ
+minus mask other = maskOf (λ j. inMask mask j && not (inMask other j)) 64
+
 -- Item x is in the mask of item y.
 abbrev pub marked : List ℕ → ℕ → ℕ → Bool
 marked masks x y = inMask (getD masks y 0) x
@@ -37,34 +47,47 @@ marked masks x y = inMask (getD masks y 0) x
 abbrev pub itemsOf : List ℕ → List ℕ → List ℕ → List ℤ → Items
 itemsOf lefts unders numbers scores = record { left = marked lefts; under = marked unders; worth = λ k. seedKey (scoreAt scores) (getD numbers k 0) }
 
--- The entry of item k in the row of the items in a mask: its key with the best of the row left of it.
-unfoldable pub entryOf : List ℕ → ℕ → ℕ → ℕ → Key
-entryOf xs row left k = keyAt xs items k ⊕ maxBelow (inMask (bitAnd row left)) (keyAt xs rows) k
-
--- What an entry takes: the banks, and that its numbers stay in bounds.
-pub record EntryRoom (xs : List ℕ) (row left k : ℕ) : Type 0 where
-  pub few : k < 64
+-- Of the items in a mask none is better in the row at hand than one that it is left of.
+pub record Rising (xs lefts : List ℕ) (mask : ℕ) : Type 0 where
   pub long : 256 ≤ length xs
-  pub small : (t m : ℕ) → entryOf xs row left k ≡ stored t m → Small t m
+  pub reach : (k : ℕ) → T (inMask mask k) → k < length lefts
+  pub rises : (j k : ℕ) → T (inMask mask j) → T (inMask mask k) → T (marked lefts j k) → better (keyAt xs rows j) (keyAt xs rows k) ≡ keyAt xs rows k
 
--- What a row over the first n items takes: the banks, and that each entry stays in bounds, whatever fills the row by the recurrence.
+-- The entry of item k in the row of the items in a mask: its key with the best of the row left of it.
+unfoldable pub entryOf : List ℕ → List ℕ → ℕ → ℕ → Key
+entryOf xs lefts row k = keyAt xs items k ⊕ maxBelow (λ j. inMask row j && marked lefts j k) (keyAt xs rows) k
+
+-- What an entry takes: the banks, a row that rises as far as it is filled, and that its numbers stay in bounds.
+pub record EntryRoom (xs lefts : List ℕ) (row k : ℕ) : Type 0 where
+  pub few : k < 64
+  pub inside : k < length lefts
+  pub before : (j : ℕ) → T (marked lefts j k) → j < k
+  pub rising : Rising xs lefts (bitAnd row (getD lefts k 0))
+  pub small : (t m : ℕ) → entryOf xs lefts row k ≡ stored t m → Small t m
+
+-- What a row over the first n items takes: the banks, lefts that rise, keys no worse than the empty chain's, and that each entry stays in
+-- bounds, whatever fills the row by the recurrence.
 pub record RowRoom (xs lefts : List ℕ) (row n : ℕ) : Type 0 where
   pub few : n ≤ 64
   pub lefts-long : n ≤ length lefts
   pub long : 256 ≤ length xs
+  pub before : (j k : ℕ) → k < n → T (marked lefts j k) → j < k
+  pub clipped : (k : ℕ) → k < n → better empty (keyAt xs items k) ≡ keyAt xs items k
   pub small : (d : ℕ → Key) (k : ℕ) → k < n → T (inMask row k) → Row (marked lefts) (inMask row) (keyAt xs items) d k → (t m : ℕ) → keyAt xs items k ⊕ maxBelow (λ j. inMask row j && marked lefts j k) d k ≡ stored t m → Small t m
 
--- The scratch held xs and holds ys, with the row over the first n items.
-pub record RowFilled (xs lefts : List ℕ) (row n : ℕ) (ys : List ℕ) : Type 0 where
+-- The scratch held xs and holds ys, with the row over the first n items, of which the best key is given.
+pub record RowFilled (xs lefts : List ℕ) (row n : ℕ) (ys : List ℕ) (best : Key) : Type 0 where
   pub long : length ys ≡ length xs
   pub row-is : Row (marked lefts) (inMask row) (keyAt xs items) (keyAt ys rows) n
   pub kept : (i : ℕ) → i < rows → getD ys i 0 ≡ getD xs i 0
+  pub best-is : best ≡ maxBelow (inMask row) (keyAt ys rows) n
 
 -- What the table takes: the laws of left and under, and numbers and scores in bounds.
 pub record Posed (lefts unders numbers : List ℕ) (scores : List ℤ) (n : ℕ) : Type 0 where
   pub lefts-long : n ≤ length lefts
   pub unders-long : n ≤ length unders
   pub numbers-long : n ≤ length numbers
+  pub before : (j k : ℕ) → k < n → T (marked lefts j k) → j < k
   pub laws : Laws (itemsOf lefts unders numbers scores) n
   pub limited : Limited 64 (scoreAt scores) (λ k. getD numbers k 0) (itemsOf lefts unders numbers scores .worth) n
 

@@ -1,6 +1,7 @@
 // How the seeds of a list stand to one another, by masks.
 use super::keys::bit;
-use super::keys::has;
+use super::keys::highest;
+use super::keys::without;
 use super::order::last_of;
 use seed::Pair;
 use seed::leaf_at;
@@ -84,7 +85,7 @@ fn lasts(nodes: &[u8], bounds: &[u16], numbers: &[u8], count: usize) -> [u8; 64]
 }
 
 // How the seeds before place y stand to the seed of uq and ut, which is there. The last nodes of all are in rq and rt, and the masks of those
-// before y in lefts and unders: what is left of a seed or under it stands as it does, and is not looked at again.
+// before y in lefts and unders: what is left of a seed or under it stands as it does, and is not looked at.
 fn masks_at(
     lq: &[u8],
     lt: &[u8],
@@ -102,16 +103,14 @@ fn masks_at(
     let u = Pair { q: rq[y], t: rt[y] };
     let mut left = 0;
     let mut under = 0;
-    let mut x = y;
-    while 0 < x {
-        let k = x - 1;
-        if !has(left | under, k) {
-            let s = Pair { q: rq[k], t: rt[k] };
-            let stand = stands_to(lq, lt, uq, ut, u, s);
-            left = widened(left, stand.left, k, lefts[k] | unders[k]);
-            under = widened(under, stand.under, k, unders[k]);
-        }
-        x = k;
+    let mut rest = bit(y) - 1;
+    while rest != 0 {
+        let k = highest(rest);
+        let s = Pair { q: rq[k], t: rt[k] };
+        let stand = stands_to(lq, lt, uq, ut, u, s);
+        left = widened(left, stand.left, k, lefts[k] | unders[k]);
+        under = widened(under, stand.under, k, unders[k]);
+        rest = without(rest, bit(k) | left | under);
     }
     Masks { left, under }
 }

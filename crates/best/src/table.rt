@@ -3,10 +3,12 @@ use super::keys::Stored;
 use super::keys::better_of;
 use super::keys::bit;
 use super::keys::clipped;
+use super::keys::highest;
 use super::keys::joined;
 use super::keys::key_at;
 use super::keys::lowest;
 use super::keys::put;
+use super::keys::without;
 use super::keys::without_lowest;
 ghost use mathlib.Core.Path.{_≡_};
 ghost use mathlib.Core.Bool.{true};
@@ -25,50 +27,51 @@ const ROWS: usize = 128;
 // The mask that has every item.
 const ALL: u64 = 18446744073709551615;
 
-// The best key of the row at hand among the first n items that a mask has, and of the empty chain.
-fn best_in(scratch: &[u64], mask: u64, n: usize) -> Stored
-    requires { ⌜ n ≤ 64 ⌝ ∗ ⌜ 256 ≤ length (now scratch) ⌝ }
-    ensures { λ r. ⌜ stored (r .total) (r .mask) ≡ maxBelow (inMask mask) (spec.keyAt (now (scratch .entry)) spec.rows) n ⌝ }
+// The best key of the row at hand among the items that a mask has, and of the empty chain. No item is better than one that it is left of, so
+// that what is left of an item looked at is not looked at.
+fn best_in(scratch: &[u64], lefts: &[u64], mask: u64) -> Stored
+    requires { ⌜ spec.Rising (now scratch) (now lefts) mask ⌝ }
+    ensures { λ r. ⌜ stored (r .total) (r .mask) ≡ maxBelow (inMask mask) (spec.keyAt (now (scratch .entry)) spec.rows) 64 ⌝ }
 {
     let mut best = Stored { total: 0, mask: 0 };
     let mut rest = mask;
+    while rest != 0 {
+        let k = highest(rest);
+        let key = key_at(scratch, ROWS, k);
+        best = better_of(best, key);
+        rest = without(rest, bit(k) | lefts[k]);
+    }
+    best
+}
+
+// The entry of item k in a row of items that a mask has.
+fn entry(scratch: &[u64], lefts: &[u64], row: u64, k: usize) -> Stored
+    requires { ⌜ spec.EntryRoom (now scratch) (now lefts) row k ⌝ }
+    ensures { λ r. ⌜ stored (r .total) (r .mask) ≡ spec.entryOf (now (scratch .entry)) (now (lefts .entry)) row k ⌝ }
+{
+    let best = best_in(scratch, lefts, row & lefts[k]);
+    let key = key_at(scratch, ITEMS, k);
+    joined(key, best)
+}
+
+// Fills the row of the first n items that a mask has, and answers its best key, or that of the empty chain.
+fn fill_row(scratch: &mut [u64], lefts: &[u64], row: u64, n: usize) -> Stored
+    requires { ⌜ spec.RowRoom (now scratch) (now lefts) row n ⌝ }
+    ensures { λ r. ⌜ spec.RowFilled (now (scratch .entry)) (now (lefts .entry)) row n (now (scratch .exit)) (stored (r .total) (r .mask)) ⌝ }
+{
+    let mut best = Stored { total: 0, mask: 0 };
+    let mut rest = row;
     while rest != 0 {
         let k = lowest(rest);
         if n <= k {
             return best;
         }
-        let key = key_at(scratch, ROWS, k);
+        let key = entry(scratch, lefts, row, k);
+        put(scratch, ROWS, k, key);
         best = better_of(best, key);
         rest = without_lowest(rest, k);
     }
     best
-}
-
-// The entry of item k in a row of items that a mask has; the mask `left` has those left of it.
-fn entry(scratch: &[u64], row: u64, left: u64, k: usize) -> Stored
-    requires { ⌜ spec.EntryRoom (now scratch) row left k ⌝ }
-    ensures { λ r. ⌜ stored (r .total) (r .mask) ≡ spec.entryOf (now (scratch .entry)) row left k ⌝ }
-{
-    let best = best_in(scratch, row & left, k);
-    let key = key_at(scratch, ITEMS, k);
-    joined(key, best)
-}
-
-// Fills the row of the first n items that a mask has.
-fn fill_row(scratch: &mut [u64], lefts: &[u64], row: u64, n: usize)
-    requires { ⌜ spec.RowRoom (now scratch) (now lefts) row n ⌝ }
-    ensures { λ r. ⌜ spec.RowFilled (now (scratch .entry)) (now (lefts .entry)) row n (now (scratch .exit)) ⌝ }
-{
-    let mut rest = row;
-    while rest != 0 {
-        let k = lowest(rest);
-        if n <= k {
-            return;
-        }
-        let key = entry(scratch, row, lefts[k], k);
-        put(scratch, ROWS, k, key);
-        rest = without_lowest(rest, k);
-    }
 }
 
 // Fills in the key of each of the first n items with the best chain under it.
@@ -85,9 +88,7 @@ fn fill_items(
 {
     let mut y = 0;
     while y < n {
-        let row = unders[y];
-        fill_row(scratch, lefts, row, y);
-        let under = best_in(scratch, row, y);
+        let under = fill_row(scratch, lefts, unders[y], y);
         let number = numbers[y] as usize;
         let key = clipped(scores[number], bit(number), under);
         put(scratch, ITEMS, y, key);
@@ -108,6 +109,5 @@ pub fn solve(
     ensures { λ r. ⌜ stored (r .total) (r .mask) ≡ bestOf (spec.itemsOf (now (lefts .entry)) (now (unders .entry)) (now (numbers .entry)) scores) (λ x. true) n ⌝ }
 {
     fill_items(scratch, lefts, unders, numbers, scores, n);
-    fill_row(scratch, lefts, ALL, n);
-    best_in(scratch, ALL, n)
+    fill_row(scratch, lefts, ALL, n)
 }

@@ -109,7 +109,7 @@ pub ≼-trans : {a b c : Key} → a ≼ b → b ≼ c → a ≼ c
 ≼-trans (same e g) (more m f) = more m (rw e at f)
 ≼-trans (same e g) (same f h) = same (f ∙ e) (omega arith)
 
-≼-antisym : {a b : Key} → a ≼ b → b ≼ a → a ≡ b
+pub ≼-antisym : {a b : Key} → a ≼ b → b ≼ a → a ≡ b
 ≼-antisym {a} {b} (more n e) (more m f) = absurd (no-gap (a .total) (n + suc m) (two-gaps (a .total) n m e f))
 ≼-antisym {a} {b} (more n e) (same f g) = absurd (no-gap (a .total) n (f ∙ e))
 ≼-antisym {a} {b} (same e g) (more m f) = absurd (no-gap (b .total) m (e ∙ f))

@@ -3,6 +3,7 @@ pub mod Keys
 pub mod StoredKeys
 pub mod Chains
 pub mod Split
+pub mod Maxima
 pub mod Recurrence
 pub mod Masks
 pub mod Numbers

@@ -7,22 +7,10 @@ use lib.Dec.{T}
 use Rattle.optimum.specs.Key.{Key, empty, _⊕_, better}
 use Rattle.optimum.specs.Table.{Items, chainable, bestOf, Laws, withUnder, maxBelow, Filled, Row}
 use Rattle.optimum.proofs.Booleans.{Is, yes, no, is, T-eq, T-neq, T-ext, and-i, and-l, and-r, up-to}
+use Rattle.optimum.proofs.Keys.{_≼_, ≼-trans, ≼-mono, ⊕-comm, ⊕-empty}
+use Rattle.optimum.proofs.Maxima.{max-in, max-out, max-cong, max-upper}
 use Rattle.optimum.proofs.Chains.{best-out, best-cong, best-none}
 use Rattle.optimum.proofs.Split.{Down, down-all, down-under, down-left, best-step}
-
-max-in : (p : ℕ → Bool) (d : ℕ → Key) (n : ℕ) → T (p n) → maxBelow p d (suc n) ≡ better (maxBelow p d n) (d n)
-unfolding maxBelow
-max-in p d n h = rw (T-eq {b = p n} h)
-
-max-out : (p : ℕ → Bool) (d : ℕ → Key) (n : ℕ) → T (not (p n)) → maxBelow p d (suc n) ≡ maxBelow p d n
-unfolding maxBelow
-max-out p d n h = rw (T-neq {b = p n} h)
-
--- It reads its table below n only.
-max-cong : (p : ℕ → Bool) (d e : ℕ → Key) (n : ℕ) → ((k : ℕ) → k < n → d k ≡ e k) → maxBelow p d n ≡ maxBelow p e n
-unfolding maxBelow
-max-cong p d e zero h = refl
-max-cong p d e (suc n) h = cc (max-cong p d e n (λ k b. h k (omega arith)), h n (omega arith))
 
 -- A row grows by one, whatever stands past it.
 pub row-next : (left : ℕ → ℕ → Bool) (p : ℕ → Bool) (v d d′ : ℕ → Key) (n : ℕ) → Row left p v d n → ((k : ℕ) → k < n → d′ k ≡ d k) → (T (p n) → d′ n ≡ v n ⊕ maxBelow (λ j. p j && left j n) d n) → Row left p v d′ (suc n)
@@ -32,6 +20,15 @@ row-next left p v d d′ n r same here =
   where
     moved : (m : ℕ) → m ≤ n → maxBelow (λ j. p j && left j m) d m ≡ maxBelow (λ j. p j && left j m) d′ m
     moved m c = max-cong (λ j. p j && left j m) d d′ m (λ j e. sym (same j (omega arith)))
+
+-- In a row of keys no worse than the empty chain's an item is no better than one that it is left of.
+pub row-rises : (left : ℕ → ℕ → Bool) (p : ℕ → Bool) (v d : ℕ → Key) (n : ℕ) → Row left p v d n → (j k : ℕ) → j < k → k < n → empty ≼ v k → T (p j) → T (p k) → T (left j k) → d j ≼ d k
+unfolding Row
+row-rises left p v d n r j k a b e s t l =
+    let m = maxBelow (λ i. p i && left i k) d k in
+    let low : d j ≼ m = max-upper (λ i. p i && left i k) d k j a (and-i (p j) (left j k) s l) in
+    let more : m ≼ m ⊕ v k = rw ⊕-empty at (≼-mono m e) in
+    rw (r k b t, ⊕-comm (v k) m) (≼-trans low more)
 
 module _ (S : Items) (N : ℕ) (laws : Laws S N) where
   -- The tests for which a row of p gives the best: p itself, and what of p is left of an item.

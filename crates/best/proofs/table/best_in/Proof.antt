@@ -1,47 +1,51 @@
--- `best::table::best_in` meets its contract: the members are taken off from the lowest on. Assumes nothing.
-use Prim.Native.Nat.{ℕ, _+_, _≤_}
-use mathlib.Core.Path.{_≡_, _∙_}
+-- `best::table::best_in` meets its contract: the highest is looked at, and taken off with what is left of it. Assumes nothing.
+use Prim.Native.Nat.{ℕ, _^_, _<_}
 use native.Mathlib.Omega.{arith}
-use Rattle.optimum.specs.Key.{inMask}
-use Rattle.optimum.specs.Table.{maxBelow, stored}
+use Rattle.optimum.specs.Table.{stored}
 use Rattle.best.specs.Table.{keyAt, rows}
-use Rattle.best.proofs.Members.{Left, left-start, left-none, left-past, left-from, left-has, left-less, left-next}
-use Rattle.best.proofs.Banks.{max-start, max-past, max-turn}
+use Rattle.best.proofs.Bits.{minus-small, minus-less, taken-off}
+use Rattle.best.proofs.Banks.{Searched, search-start, search-turn, search-end}
 use Rattle.best.proofs.table.best_in.Statement.{statement}
 use Rattle.best.proofs.table.best_in.Tie as tie
 
 abbrev Inv-loop : tie.InvT-loop
-Inv-loop scratch mask n best₀ rest₀ best rest = (k : ℕ) × (k ≤ n) × Left mask k rest × (stored (best .total) (best .mask) ≡ maxBelow (inMask mask) (keyAt scratch rows) k)
+Inv-loop scratch lefts mask best₀ rest₀ best rest = (rest < 2 ^ 64) × Searched mask (keyAt scratch rows) rest (stored (best .total) (best .mask))
 
 abbrev μ-loop : tie.MeasureT-loop
-μ-loop scratch mask n best₀ rest₀ best rest = rest
+μ-loop scratch lefts mask best₀ rest₀ best rest = rest
 
 loop-holds : tie.Need-loop-holds Inv-loop μ-loop
-loop-holds c = (0, omega arith, left-start _ (c .before .fits .mask .fits), max-start _ _)
+loop-holds c = (c .before .before .fits .mask .fits, search-start _ _)
 
-lowest-requires : tie.Need-lowest-requires Inv-loop μ-loop
-lowest-requires c κs = c .loop-test .taken
-
-returns : tie.Need-returns Inv-loop μ-loop
-returns c = c .before .before .before .loop .inv .3 ∙ max-past _ _ _ _ (c .before .before .before .loop .inv .1) (λ j a b. left-past (c .before .before .before .loop .inv .2) (c .before .lowest .ensures) j a (omega arith))
+highest-requires : tie.Need-highest-requires Inv-loop μ-loop
+highest-requires c κs = c .loop-test .taken
 
 key-at-requires : tie.Need-key-at-requires Inv-loop μ-loop
-key-at-requires c κs = omega (arith, c .before .lowest .ensures .few)
+key-at-requires c κs = (c .highest .ensures .few, c .before .before .before .before .before .pre .long)
 
 better-of-requires : tie.Need-better-of-requires Inv-loop μ-loop
 better-of-requires c κs = tt
 
-without-lowest-requires : tie.Need-without-lowest-requires Inv-loop μ-loop
-without-lowest-requires c κs = (c .before .before .before .before .loop-test .taken, c .before .before .before .lowest .ensures)
+bit-requires : tie.Need-bit-requires Inv-loop μ-loop
+bit-requires c κs = c .before .before .highest .ensures .few
+
+mul-without : tie.Need-mul-without Inv-loop μ-loop
+mul-without c = omega (arith, c .before .before .before .highest .ensures .few)
+
+shared-slice-read-without : tie.Need-shared-slice-read-without Inv-loop μ-loop
+shared-slice-read-without c = c .before .before .before .before .before .before .before .before .before .pre .reach _ (rw (c .before .before .before .before .before .before .loop .inv .1 .of _ (c .before .before .before .before .highest .ensures .has)) tt)
+
+without-requires : tie.Need-without-requires Inv-loop μ-loop
+without-requires c κs = tt
 
 loop-less : tie.Need-loop-less Inv-loop μ-loop
-loop-less c = rw (c .without-lowest .ensures) (left-less (c .before .before .before .before .before .before .loop .inv .2) (c .before .before .before .before .lowest .ensures))
+loop-less c = rw (c .without .ensures, c .before .before .bit .ensures) (minus-less _ _ _ (c .before .before .before .before .before .before .before .loop .inv .0) (c .before .before .before .before .before .highest .ensures .few) (c .before .before .before .before .before .highest .ensures .has) (taken-off _ _))
 
 loop-again : tie.Need-loop-again Inv-loop μ-loop
-loop-again c = (c .before .before .before .before .lowest .result + 1, omega (arith, c .before .before .before .if1 .left), rw (c .without-lowest .ensures) (left-next (c .before .before .before .before .before .before .loop .inv .2) (c .before .before .before .before .lowest .ensures)), max-turn _ _ _ _ (left-from (c .before .before .before .before .before .before .loop .inv .2) (c .before .before .before .before .lowest .ensures)) (left-past (c .before .before .before .before .before .before .loop .inv .2) (c .before .before .before .before .lowest .ensures)) (left-has (c .before .before .before .before .before .before .loop .inv .2) (c .before .before .before .before .lowest .ensures)) (c .before .before .before .before .before .before .loop .inv .3) (c .before .before .key-at .ensures) (c .before .better-of .ensures))
+loop-again c = (rw (c .without .ensures) (minus-small _ _), search-turn (c .before .before .before .before .before .before .before .before .before .before .pre) (c .before .before .before .before .before .before .before .loop .inv .1) _ (c .before .before .before .before .before .highest .ensures .few) (c .before .before .before .before .before .highest .ensures .has) (c .before .before .before .before .key-at .ensures) (c .before .before .before .better-of .ensures) (rw (c .before .before .bit .ensures) at (c .without .ensures)))
 
-returns-2 : tie.Need-returns-2 Inv-loop μ-loop
-returns-2 c = c .before .loop .inv .3 ∙ max-past _ _ _ _ (c .before .loop .inv .1) (λ j a b. left-none (c .before .loop .inv .2) (c .loop-test .left) j a (omega arith))
+returns : tie.Need-returns Inv-loop μ-loop
+returns c = search-end (c .before .before .before .before .pre) (c .before .loop .inv .1) (c .loop-test .left)
 
 pub best-in-spec : {M : Type 1} → statement M
 best-in-spec =
@@ -50,11 +54,13 @@ best-in-spec =
     Inv-loop
     μ-loop
     loop-holds
-    lowest-requires
-    returns
+    highest-requires
     key-at-requires
     better-of-requires
-    without-lowest-requires
+    bit-requires
+    mul-without
+    shared-slice-read-without
+    without-requires
     loop-less
     loop-again
-    returns-2)
+    returns)

@@ -18,53 +18,47 @@ abbrev μ-loop : tie.MeasureT-loop
 loop-holds : tie.Need-loop-holds Inv-loop μ-loop
 loop-holds c = (omega arith, items-start _ _ _ _ _ (c .before .before .before .before .pre .0) _)
 
-mul-row : tie.Need-mul-row Inv-loop μ-loop
-mul-row c = omega arith
+mul-fill-row : tie.Need-mul-fill-row Inv-loop μ-loop
+mul-fill-row c = omega arith
 
-shared-slice-read-row : tie.Need-shared-slice-read-row Inv-loop μ-loop
-shared-slice-read-row c = omega (arith, (c .before .before .before .before .before .before .before .pre .0 .unders-long))
+shared-slice-read-fill-row : tie.Need-shared-slice-read-fill-row Inv-loop μ-loop
+shared-slice-read-fill-row c = omega (arith, c .before .before .before .before .before .before .before .before .pre .0 .unders-long)
 
 fill-row-requires : tie.Need-fill-row-requires Inv-loop μ-loop
 fill-row-requires c κs = item-room _ _ _ _ _ (c .before .before .before .before .before .before .before .before .pre .0) _ (c .before .before .before .before .before .before .before .before .pre .1) _ (c .before .before .loop-test .taken) _ (c .before .before .before .loop .inv .1)
 
-best-in-requires : tie.Need-best-in-requires Inv-loop μ-loop
-best-in-requires c κs = omega (arith, (c .before .before .before .before .before .before .before .before .before .before .before .before .pre .0 .limited .items), (c .before .before .before .before .before .before .before .before .before .before .before .before .pre .1), (c .before .before .before .fill-row .ensures .long), (c .before .before .before .before .before .before .before .loop .inv .1 .long))
-
 shared-slice-read-number : tie.Need-shared-slice-read-number Inv-loop μ-loop
-shared-slice-read-number c = omega (arith, (c .before .before .before .before .before .before .before .before .before .before .before .before .before .before .pre .0 .numbers-long), (c .before .before .before .before .before .before .before .before .loop-test .taken))
+shared-slice-read-number c = omega (arith, c .before .before .before .before .before .before .before .before .before .before .before .before .pre .0 .numbers-long, c .before .before .before .before .before .before .loop-test .taken)
 
 cast-number : tie.Need-cast-number Inv-loop μ-loop
-cast-number c = omega (arith, (c .shared-slice-known5 .given) (c .before .before .before .before .before .before .before .before .before .loop .y))
+cast-number c = omega (arith, (c .shared-slice-known5 .given) (c .before .before .before .before .before .before .before .loop .y))
 
 mul-clipped : tie.Need-mul-clipped Inv-loop μ-loop
-mul-clipped c = omega (arith, (c .shared-slice-known5 .given) (c .before .before .before .before .before .before .before .before .before .loop .y))
+mul-clipped c = omega (arith, (c .shared-slice-known5 .given) (c .before .before .before .before .before .before .before .loop .y))
 
 array-copy-out-clipped : tie.Need-array-copy-out-clipped Inv-loop μ-loop
-array-copy-out-clipped c = (c .before .before .before .before .before .before .before .before .before .before .before .before .before .before .pre .0 .limited .numbered .within) (c .before .before .before .before .before .before .before .before .before .loop .y) (c .before .before .before .before .before .before .before .before .loop-test .taken)
+array-copy-out-clipped c = (c .before .before .before .before .before .before .before .before .before .before .before .before .pre .0 .limited .numbered .within) (c .before .before .before .before .before .before .before .loop .y) (c .before .before .before .before .before .before .loop-test .taken)
 
 bit-requires : tie.Need-bit-requires Inv-loop μ-loop
-bit-requires c κs = (c .before .before .before .before .before .before .before .before .before .before .before .before .before .before .before .pre .0 .limited .numbered .within) (c .before .before .before .before .before .before .before .before .before .before .loop .y) (c .before .before .before .before .before .before .before .before .before .loop-test .taken)
+bit-requires c κs = (c .before .before .before .before .before .before .before .before .before .before .before .before .before .pre .0 .limited .numbered .within) (c .before .before .before .before .before .before .before .before .loop .y) (c .before .before .before .before .before .before .before .loop-test .taken)
 
 clipped-requires : tie.Need-clipped-requires Inv-loop μ-loop
-clipped-requires c κs = rw (c .bit .ensures) (item-small _ _ _ _ _ (c .before .before .before .before .before .before .before .before .before .before .before .before .before .before .before .before .pre .0) _ (c .before .before .before .before .before .before .before .before .before .before .before .before .before .before .before .before .pre .1) _ (c .before .before .before .before .before .before .before .before .before .before .loop-test .taken) _ (c .before .before .before .before .before .before .before .before .before .before .before .loop .inv .1) _ (c .before .before .before .before .before .before .before .fill-row .ensures) _ _ (c .before .before .before .best-in .ensures))
+clipped-requires c κs = rw (c .bit .ensures) (item-small _ _ _ _ _ (c .before .before .before .before .before .before .before .before .before .before .before .before .before .before .pre .0) _ (c .before .before .before .before .before .before .before .before .before .before .before .before .before .before .pre .1) _ (c .before .before .before .before .before .before .before .before .loop-test .taken) _ (c .before .before .before .before .before .before .before .before .before .loop .inv .1) _ _ _ (c .before .before .before .before .before .fill-row .ensures))
 
 put-requires : tie.Need-put-requires Inv-loop μ-loop
-put-requires c κs = omega (arith, (c .before .before .before .before .before .before .before .before .before .before .before .before .before .before .before .before .before .before .pre .0 .limited .items), (c .before .before .before .before .before .before .before .before .before .before .before .before .loop-test .taken), (c .before .before .before .before .before .before .before .before .before .before .before .before .before .before .before .before .before .before .pre .1), (c .before .before .before .before .before .before .before .before .before .fill-row .ensures .long), (c .before .before .before .before .before .before .before .before .before .before .before .before .before .loop .inv .1 .long))
+put-requires c κs = omega (arith, c .before .before .before .before .before .before .before .before .before .before .before .before .before .before .before .before .pre .0 .limited .items, c .before .before .before .before .before .before .before .before .before .before .loop-test .taken, c .before .before .before .before .before .before .before .before .before .before .before .before .before .before .before .before .pre .1, c .before .before .before .before .before .before .before .fill-row .ensures .long, c .before .before .before .before .before .before .before .before .before .before .before .loop .inv .1 .long)
 
 add-y : tie.Need-add-y Inv-loop μ-loop
-add-y c = omega (arith, (c .before .before .before .before .before .before .before .before .before .before .before .before .before .before .before .before .before .before .before .before .before .pre .0 .limited .items), (c .before .before .before .before .before .before .before .before .before .before .before .before .before .before .before .loop-test .taken))
+add-y c = omega (arith, c .before .before .before .before .before .before .before .before .before .before .before .before .before .before .before .before .before .before .before .pre .0 .limited .items, c .before .before .before .before .before .before .before .before .before .before .before .before .before .loop-test .taken)
 
 loop-less : tie.Need-loop-less Inv-loop μ-loop
-loop-less c = omega (arith, (c .before .before .before .before .before .before .before .before .before .before .before .before .before .before .before .loop-test .taken))
+loop-less c = omega (arith, c .before .before .before .before .before .before .before .before .before .before .before .before .before .loop-test .taken)
 
 loop-again : tie.Need-loop-again Inv-loop μ-loop
-loop-again c = (
-  omega (arith, (c .before .before .before .before .before .before .before .before .before .before .before .before .before .before .before .loop-test .taken)),
-  item-turn _ _ _ _ _ (c .before .before .before .before .before .before .before .before .before .before .before .before .before .before .before .before .before .before .before .before .before .pre .0) _ (c .before .before .before .before .before .before .before .before .before .before .before .before .before .before .before .before .before .before .before .before .before .pre .1) _ (c .before .before .before .before .before .before .before .before .before .before .before .before .before .before .before .loop-test .taken) _ (c .before .before .before .before .before .before .before .before .before .before .before .before .before .before .before .before .loop .inv .1) _ (c .before .before .before .before .before .before .before .before .before .before .before .before .fill-row .ensures) _ _ (c .before .before .before .before .before .before .before .before .best-in .ensures) _ _ _ (rw (toZ-ofZ (sfits-of (c .before .before .before .before .before .before .clipped-arg .given)), (c .before .before .before .before .before .bit .ensures)) at (c .before .before .before .before .clipped .ensures)) (c .before .before .put .ensures),
-)
+loop-again c = (omega (arith, c .before .before .before .before .before .before .before .before .before .before .before .before .before .loop-test .taken), item-turn _ _ _ _ _ (c .before .before .before .before .before .before .before .before .before .before .before .before .before .before .before .before .before .before .before .pre .0) _ (c .before .before .before .before .before .before .before .before .before .before .before .before .before .before .before .before .before .before .before .pre .1) _ (c .before .before .before .before .before .before .before .before .before .before .before .before .before .loop-test .taken) _ (c .before .before .before .before .before .before .before .before .before .before .before .before .before .before .loop .inv .1) _ _ _ (c .before .before .before .before .before .before .before .before .before .before .fill-row .ensures) _ _ _ (rw (toZ-ofZ (sfits-of (c .before .before .before .before .before .before .clipped-arg .given)), c .before .before .before .before .before .bit .ensures) at (c .before .before .before .before .clipped .ensures)) (c .before .before .put .ensures))
 
 same-length : tie.Need-same-length Inv-loop μ-loop
-same-length c = (c .before .loop .inv .1 .long)
+same-length c = c .before .loop .inv .1 .long
 
 returns : tie.Need-returns Inv-loop μ-loop
 returns c = let x : (c .before .loop .y) ≡ (c .before .before .before .before .before .before .args .n) = omega arith in rw x at (c .before .loop .inv .1)
@@ -76,10 +70,9 @@ fill-items-spec =
     Inv-loop
     μ-loop
     loop-holds
-    mul-row
-    shared-slice-read-row
+    mul-fill-row
+    shared-slice-read-fill-row
     fill-row-requires
-    best-in-requires
     shared-slice-read-number
     cast-number
     mul-clipped

@@ -1,17 +1,18 @@
 -- `best::table::fill_row` meets its contract: the members are taken off from the lowest on. Assumes nothing.
 use Prim.Native.Nat.{ℕ, _+_, _≤_}
 use native.Mathlib.Omega.{arith}
+use Rattle.optimum.specs.Table.{stored}
 use Rattle.best.specs.Table.{RowFilled}
-use Rattle.best.proofs.Members.{Left, left-start, left-none, left-past, left-has, left-less, left-next}
+use Rattle.best.proofs.Members.{Left, left-start, left-none, left-past, left-from, left-has, left-less, left-next}
 use Rattle.best.proofs.Rows.{row-start, row-room, row-turn, row-past}
 use Rattle.best.proofs.table.fill_row.Statement.{statement}
 use Rattle.best.proofs.table.fill_row.Tie as tie
 
 abbrev Inv-loop : tie.InvT-loop
-Inv-loop scratch₀ lefts row n rest₀ scratch rest = (k : ℕ) × (k ≤ n) × Left row k rest × RowFilled scratch₀ lefts row k scratch
+Inv-loop scratch₀ lefts row n best₀ rest₀ scratch best rest = (k : ℕ) × (k ≤ n) × Left row k rest × RowFilled scratch₀ lefts row k scratch (stored (best .total) (best .mask))
 
 abbrev μ-loop : tie.MeasureT-loop
-μ-loop scratch₀ lefts row n rest₀ scratch rest = rest
+μ-loop scratch₀ lefts row n best₀ rest₀ scratch best rest = rest
 
 loop-holds : tie.Need-loop-holds Inv-loop μ-loop
 loop-holds c = (0, omega arith, left-start _ (c .before .before .fits .row .fits), row-start _ _ _)
@@ -23,19 +24,16 @@ same-length : tie.Need-same-length Inv-loop μ-loop
 same-length c = c .before .before .before .loop .inv .3 .long
 
 returns : tie.Need-returns Inv-loop μ-loop
-returns c = row-past _ _ _ _ _ _ (c .before .before .before .loop .inv .3) (λ j a b. left-past (c .before .before .before .loop .inv .2) (c .before .lowest .ensures) j a (omega arith))
-
-mul-entry : tie.Need-mul-entry Inv-loop μ-loop
-mul-entry c = omega (arith, c .before .before .lowest .ensures .few)
-
-shared-slice-read-entry : tie.Need-shared-slice-read-entry Inv-loop μ-loop
-shared-slice-read-entry c = omega (arith, c .before .before .if1 .left)
+returns c = row-past _ _ _ _ _ _ (c .before .before .before .loop .inv .3) (c .before .before .before .loop .inv .1) (λ j a b. left-past (c .before .before .before .loop .inv .2) (c .before .lowest .ensures) j a (omega arith))
 
 entry-requires : tie.Need-entry-requires Inv-loop μ-loop
-entry-requires c κs = row-room _ _ _ _ (c .before .before .before .before .before .before .before .before .pre) _ (omega (arith, c .before .before .if1 .left)) _ (row-past _ _ _ _ _ _ (c .before .before .before .before .before .loop .inv .3) (left-past (c .before .before .before .before .before .loop .inv .2) (c .before .before .before .lowest .ensures))) (rw (left-has (c .before .before .before .before .before .loop .inv .2) (c .before .before .before .lowest .ensures)) tt)
+entry-requires c κs = row-room _ _ _ _ (c .before .before .before .before .before .before .before .pre) _ (omega (arith, c .before .if1 .left)) _ (row-past _ _ _ _ _ _ (c .before .before .before .before .loop .inv .3) (left-from (c .before .before .before .before .loop .inv .2) (c .before .before .lowest .ensures)) (left-past (c .before .before .before .before .loop .inv .2) (c .before .before .lowest .ensures))) (rw (left-has (c .before .before .before .before .loop .inv .2) (c .before .before .lowest .ensures)) tt)
 
 put-requires : tie.Need-put-requires Inv-loop μ-loop
-put-requires c κs = omega (arith, c .before .before .before .before .before .lowest .ensures .few, c .before .before .before .before .before .before .before .loop .inv .3 .long, c .before .before .before .before .before .before .before .before .before .before .pre .long)
+put-requires c κs = omega (arith, c .before .before .before .before .lowest .ensures .few, c .before .before .before .before .before .before .loop .inv .3 .long, c .before .before .before .before .before .before .before .before .before .pre .long)
+
+better-of-requires : tie.Need-better-of-requires Inv-loop μ-loop
+better-of-requires c κs = tt
 
 without-lowest-requires : tie.Need-without-lowest-requires Inv-loop μ-loop
 without-lowest-requires c κs = (c .before .before .before .before .before .before .before .before .before .loop-test .taken, c .before .before .before .before .before .before .before .before .lowest .ensures)
@@ -44,13 +42,13 @@ loop-less : tie.Need-loop-less Inv-loop μ-loop
 loop-less c = rw (c .without-lowest .ensures) (left-less (c .before .before .before .before .before .before .before .before .before .before .before .loop .inv .2) (c .before .before .before .before .before .before .before .before .before .lowest .ensures))
 
 loop-again : tie.Need-loop-again Inv-loop μ-loop
-loop-again c = (c .before .before .before .before .before .before .before .before .before .lowest .result + 1, omega (arith, c .before .before .before .before .before .before .before .before .if1 .left), rw (c .without-lowest .ensures) (left-next (c .before .before .before .before .before .before .before .before .before .before .before .loop .inv .2) (c .before .before .before .before .before .before .before .before .before .lowest .ensures)), row-turn _ _ _ _ (c .before .before .before .before .before .before .before .before .before .before .before .before .before .before .pre) _ (omega (arith, c .before .before .before .before .before .before .before .before .if1 .left)) _ (row-past _ _ _ _ _ _ (c .before .before .before .before .before .before .before .before .before .before .before .loop .inv .3) (left-past (c .before .before .before .before .before .before .before .before .before .before .before .loop .inv .2) (c .before .before .before .before .before .before .before .before .before .lowest .ensures))) _ _ _ (c .before .before .before .before .before .entry .ensures) (c .before .before .before .put .ensures))
+loop-again c = (c .before .before .before .before .before .before .before .before .before .lowest .result + 1, omega (arith, c .before .before .before .before .before .before .before .before .if1 .left), rw (c .without-lowest .ensures) (left-next (c .before .before .before .before .before .before .before .before .before .before .before .loop .inv .2) (c .before .before .before .before .before .before .before .before .before .lowest .ensures)), row-turn _ _ _ _ (c .before .before .before .before .before .before .before .before .before .before .before .before .before .before .pre) _ (omega (arith, c .before .before .before .before .before .before .before .before .if1 .left)) _ (row-past _ _ _ _ _ _ (c .before .before .before .before .before .before .before .before .before .before .before .loop .inv .3) (left-from (c .before .before .before .before .before .before .before .before .before .before .before .loop .inv .2) (c .before .before .before .before .before .before .before .before .before .lowest .ensures)) (left-past (c .before .before .before .before .before .before .before .before .before .before .before .loop .inv .2) (c .before .before .before .before .before .before .before .before .before .lowest .ensures))) (left-has (c .before .before .before .before .before .before .before .before .before .before .before .loop .inv .2) (c .before .before .before .before .before .before .before .before .before .lowest .ensures)) _ _ _ (c .before .before .before .before .before .before .entry .ensures) (c .before .before .before .before .put .ensures) (c .before .better-of .ensures))
 
 same-length-2 : tie.Need-same-length-2 Inv-loop μ-loop
 same-length-2 c = c .before .loop .inv .3 .long
 
 returns-2 : tie.Need-returns-2 Inv-loop μ-loop
-returns-2 c = row-past _ _ _ _ _ _ (c .before .loop .inv .3) (λ j a b. left-none (c .before .loop .inv .2) (c .loop-test .left) j a (omega (arith, c .before .before .before .before .pre .few)))
+returns-2 c = row-past _ _ _ _ _ _ (c .before .loop .inv .3) (c .before .loop .inv .1) (λ j a b. left-none (c .before .loop .inv .2) (c .loop-test .left) j a (omega (arith, c .before .before .before .before .pre .few)))
 
 pub fill-row-spec : {M : Type 1} → statement M
 fill-row-spec =
@@ -62,10 +60,9 @@ fill-row-spec =
     lowest-requires
     same-length
     returns
-    mul-entry
-    shared-slice-read-entry
     entry-requires
     put-requires
+    better-of-requires
     without-lowest-requires
     loop-less
     loop-again
