@@ -1,8 +1,8 @@
 -- What is built of a tree by reading one item or one run more, in each case of the code. Assumes nothing.
 use mathlib.Core.Path.{_≡_, refl, sym, ap, ap₂, subst, _∙_}
-use mathlib.Core.Bool.{true, false}
-use mathlib.Core.Logic.{_⊎_, ⊎-elim}
-use Prim.Native.Nat.{ℕ, suc, _+_, _≤_, _<_}
+use mathlib.Core.Bool.{true, false, true≢false, false≢true}
+use mathlib.Core.Logic.{_⊎_, ⊎-elim, inl, inr}
+use Prim.Native.Nat.{ℕ, zero, suc, _+_, _≤_, _<_}
 use native.Mathlib.Omega.{arith}
 use native.Mathlib.Nat.{add-zero}
 use native.Mathlib.Numerals.{add-one}
@@ -13,18 +13,24 @@ use Rattle.tree.specs.Run.{Run, spell, size, leftsFrom}
 use Rattle.tree.specs.Run.Run.{end, dot, pair}
 use Rattle.tree.specs.Reading.{meaningOf, Runs, first, onto, runs}
 use Rattle.tree.specs.Reading.Runs.{last, more}
-use Rattle.tree.specs.Building.{runAt, itemOf, Ready, Grown, OpensAt, RunRead, ItemRead}
+use Rattle.tree.specs.Building.{runAt, itemOf, Ready, Grown, OpensAt, RunRead, ItemRead, closing}
 use Rattle.tree.specs.declared.character.Meaning.{Meaning}
 use Rattle.tree.specs.declared.character.Meaning.the-variants.{Unpaired, Opening, Closing, Refused}
 use Rattle.tree.specs.declared.run.Reached.{Reached}
-use Rattle.tree.proofs.Meanings.{tag, tag-not-closing, clash}
-use Rattle.tree.proofs.Leaves.{length-lefts}
-use Rattle.tree.proofs.Splits.{splits, first-fits, item-fits, size-spell, ended, ended-end, ended-closing, ended-other, onto-open, closer, onto-pair, restOf, rest-read}
+use Rattle.tree.proofs.Meanings.{tag, clash}
+use Rattle.tree.proofs.Leaves.{lt-or-le, length-lefts}
+use Rattle.tree.proofs.Splits.{splits, first-fits, item-fits, size-spell, ended, ended-closing, ended-other, onto-open, closer, onto-pair, restOf, rest-read}
 
 -- The numbers of a list, stored one after another, and then those of a second.
 sets-append : (l : List ℕ) (i : ℕ) (xs ys : List ℕ) → sets l i (xs ++ ys) ≡ sets (sets l i xs) (i + length xs) ys
 sets-append l i [] ys = ap (λ (k : ℕ). sets l k ys) (sym (add-zero i))
 sets-append l i (x ∷ xs) ys = sets-append (set l i x) (suc i) xs ys ∙ ap (λ (k : ℕ). sets (sets (set l i x) (suc i) xs) k ys) (omega arith)
+
+-- Beyond a text no byte means anything.
+pub beyond : (s : List ℕ) (i : ℕ) → length s ≤ i → getD s i 0 ≡ 0
+beyond [] i h = refl
+beyond (x ∷ s) zero h = absurd (omega arith)
+beyond (x ∷ s) (suc i) h = beyond s i (omega arith)
 
 -- The leftmost leaves of a bracket pair are those of the run inside it, and its own.
 pair-left : (l : List ℕ) (n : ℕ) (r : Run) → set (sets l n (leftsFrom n r)) (n + size r) n ≡ sets l n (leftsFrom n r ++ n ∷ [])
@@ -70,6 +76,16 @@ no-item end h = refl
 no-item (dot c r) h = absurd (omega arith)
 no-item (pair o i c r) h = absurd (omega arith)
 
+-- A closing byte stands inside the text.
+pub is-closing : (m : Meaning) → closing m ≡ true → m ≡ Closing
+is-closing Unpaired e = absurd (false≢true e)
+is-closing Opening e = absurd (false≢true e)
+is-closing Closing e = refl
+is-closing Refused e = absurd (false≢true e)
+
+pub closed-inside : (s : List ℕ) (i : ℕ) → closing (meaningOf (getD s i 0)) ≡ true → i < length s
+closed-inside s i h = elim (lt-or-le i (length s)) [ inl l ↦ l | inr l ↦ absurd (false≢true (sym (ap (λ (b : ℕ). closing (meaningOf b)) (beyond s i l)) ∙ h)) ]
+
 -- What is read has no more nodes than bytes.
 pub fewer-nodes : {r : Run} {stuck : Type 0} {at n : ℕ} {left : List ℕ} {x : Reached} {after : List ℕ} → Grown r stuck at n left x after → n ≤ at → x .n ≤ x .at
 fewer-nodes {r} h le = omega (arith, size-spell r)
@@ -112,33 +128,30 @@ module _ (s : List ℕ) (at n : ℕ) (left : List ℕ) where
       unended : ended (runs Next) ≡ false → ItemRead s at n left (record { at = at; n = n }) after
       unended e = stays (opening-is ∙ ap (λ (y : Runs). itemOf (first y)) (onto-open Byte (runs Next) e)) (λ f. absurd (f (sym is ∙ opens)))
 
-      pub item-unended : length s ≤ x .at → ItemRead s at n left (record { at = at; n = n }) after
-      item-unended h = unended (ended-end Next (runs Next) (splits Next) (omega (arith, length-drop (at + 1) s, inner .passed)))
+      pub item-unclosed : closing (meaningOf (getD s (x .at) 0)) ≡ false → ItemRead s at n left (record { at = at; n = n }) after
+      item-unclosed h = unended (ended-other Next (runs Next) (splits Next) (λ e. true≢false (ap closing (sym e ∙ ap meaningOf close-byte) ∙ h)))
 
-      module _ (k : Meaning) (closes : k ≡ meaningOf (getD s (x .at) 0)) where
-        pub item-unclosed : (tag k ≡ 0) ⊎ ((tag k ≡ 1) ⊎ (tag k ≡ 3)) → ItemRead s at n left (record { at = at; n = n }) after
-        item-unclosed h = unended (ended-other Next (runs Next) (splits Next) (λ e. tag-not-closing k h (closes ∙ ap meaningOf (sym close-byte) ∙ e)))
-
-        pub item-closed : x .at < length s → k ≡ Closing → ItemRead s at n left (record { at = x .at + 1; n = x .n + 1 }) (set after (x .n) n)
-        item-closed h e =
-            let r : Run = runAt s (at + 1) in
-            let now-ended : ended (runs Next) ≡ true = ended-closing Next (runs Next) (splits Next) (omega (arith, length-drop (at + 1) s, inner .passed)) (ap meaningOf close-byte ∙ sym closes ∙ e) in
-            reads (pair Byte r (closer (runs Next)) end) (opening-is ∙ onto-pair Byte (runs Next) now-ended)
-            (record {
-              passed = omega (arith, inner .passed, length-append (spell r) (closer (runs Next) ∷ []));
-              counted = omega (arith, inner .counted);
-              written = λ f. ap₂ (λ (l : List ℕ) (j : ℕ). set l j n) (inner .written (λ o. clash (cc))) (inner .counted) ∙ pair-left left n r;
-            })
+      pub item-closed : closing (meaningOf (getD s (x .at) 0)) ≡ true → ItemRead s at n left (record { at = x .at + 1; n = x .n + 1 }) (set after (x .n) n)
+      item-closed h =
+          let r : Run = runAt s (at + 1) in
+          let closes : meaningOf (getD s (x .at) 0) ≡ Closing = is-closing (meaningOf (getD s (x .at) 0)) h in
+          let now-ended : ended (runs Next) ≡ true = ended-closing Next (runs Next) (splits Next) (omega (arith, length-drop (at + 1) s, inner .passed, closed-inside s (x .at) h)) (ap meaningOf close-byte ∙ closes) in
+          reads (pair Byte r (closer (runs Next)) end) (opening-is ∙ onto-pair Byte (runs Next) now-ended)
+          (record {
+            passed = omega (arith, inner .passed, length-append (spell r) (closer (runs Next) ∷ []));
+            counted = omega (arith, inner .counted);
+            written = λ f. ap₂ (λ (l : List ℕ) (j : ℕ). set l j n) (inner .written (λ o. clash (cc))) (inner .counted) ∙ pair-left left n r;
+          })
 
   -- The run at a byte, in each case of the code that reads it.
   module _ (x : Reached) (after : List ℕ) (item : ItemRead s at n left x after) where
-    run-done : x .at ≡ at → RunRead s at n left x after
+    pub run-done : x .at ≡ at → RunRead s at n left x after
     run-done h =
         let e : runAt s at ≡ end = no-item (runAt s at) (omega (arith, item .passed)) in
         subst (λ (r : Run). Grown r (OpensAt s (x .at)) at n left x after) (ap itemOf e ∙ sym e)
         (record { passed = item .passed; counted = item .counted; written = λ f. item .written (λ w. f (subst (OpensAt s) (sym h) (w .1))) })
 
-    run-more : (x .at ≡ at → ⊥) → (y : Reached) (filled : List ℕ) → RunRead s (x .at) (x .n) after y filled → RunRead s at n left y filled
+    pub run-more : (x .at ≡ at → ⊥) → (y : Reached) (filled : List ℕ) → RunRead s (x .at) (x .n) after y filled → RunRead s at n left y filled
     run-more ne y filled rest =
         let r : Run = runAt s at in
         let e : runAt s (x .at) ≡ restOf r = ap (runAt s) (item .passed) ∙ ap (λ (l : List ℕ). first (runs l)) (sym (drop-drop (length (spell (itemOf r))) at s)) ∙ rest-read (drop at s) in

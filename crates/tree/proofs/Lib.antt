@@ -4,6 +4,7 @@ pub mod Lengths
 pub mod FirstRefused
 pub mod Splits
 pub mod Growing
+pub mod Descents
 pub mod Spelling
 pub mod Partners
 pub mod Texts

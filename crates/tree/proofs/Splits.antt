@@ -80,10 +80,6 @@ pub after : (s a t : List ℕ) → s ≡ a ++ t → getD s (length a) 0 ≡ getD
 after s a t e = ap (λ (l : List ℕ). getD l (length a) 0) e ∙ seam a t
 
 -- The byte at which a run stops tells whether a closing bracket ends it.
-pub ended-end : (s : List ℕ) (rs : Runs) → Splits rs s → length s ≤ length (spell (first rs)) → ended rs ≡ false
-ended-end s (last r) w h = refl
-ended-end s (more r c rs) w h = absurd (omega (arith, length-append (spell r) (c ∷ w .0), ap length (w .1)))
-
 pub ended-closing : (s : List ℕ) (rs : Runs) → Splits rs s → length (spell (first rs)) < length s → meaningOf (getD s (length (spell (first rs))) 0) ≡ Closing → ended rs ≡ true
 ended-closing s (last r) w h e = absurd (stop-closing (w .0) (w .2) (omega (arith, length-append (spell r) (w .0), ap length (w .1))) (sym (ap meaningOf (after s (spell r) (w .0) (w .1))) ∙ e))
 ended-closing s (more r c rs) w h e = refl

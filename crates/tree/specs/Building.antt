@@ -1,13 +1,16 @@
 -- What is built of a tree while a text is read. Assumes nothing.
 use mathlib.Core.Path.{_≡_}
-use Prim.Native.Nat.{ℕ, _+_, _≤_}
+use mathlib.Core.Bool.{Bool, true, false}
+use mathlib.Core.Logic.{_⊎_}
+use Prim.Native.Nat.{ℕ, zero, suc, _+_, _≤_, _<_}
 use mathlib.Core.List.{List}
-use lib.ListN.{length, getD, drop}
+use lib.ListN.{length, getD, set, drop}
 use lib.Seq.{sets}
 use Rattle.tree.specs.Run.{Run, spell, size, leftsFrom}
 use Rattle.tree.specs.Run.Run.{end, dot, pair}
 use Rattle.tree.specs.Reading.{meaningOf, first, runs}
-use Rattle.tree.specs.declared.character.Meaning.the-variants.{Opening}
+use Rattle.tree.specs.declared.character.Meaning.{Meaning}
+use Rattle.tree.specs.declared.character.Meaning.the-variants.{Unpaired, Opening, Closing, Refused}
 use Rattle.tree.specs.declared.run.Reached.{Reached}
 
 -- The run that is read from a byte of a text on.
@@ -45,3 +48,46 @@ RunRead s at n left x after = Grown (runAt s at) (OpensAt s (x .at)) at n left x
 -- An item is stuck where it is not read past its opening byte.
 abbrev pub ItemRead : List ℕ → ℕ → ℕ → List ℕ → Reached → List ℕ → Type 0
 ItemRead s at n left x after = Grown (itemOf (runAt s at)) ((x .at ≡ at) × OpensAt s at) at n left x after
+
+-- Whether a byte of some meaning closes a bracket.
+abbrev pub closing : Meaning → Bool
+closing Unpaired = false
+closing Opening = false
+closing Closing = true
+closing Refused = false
+
+-- How many nodes there are with a byte more, and what leaves are written.
+abbrev pub withNode : Meaning → ℕ → ℕ
+withNode Unpaired n = suc n
+withNode Opening n = n
+withNode Closing n = n
+withNode Refused n = n
+
+abbrev pub withLeaf : Meaning → ℕ → List ℕ → List ℕ
+withLeaf Unpaired n left = set left n n
+withLeaf Opening n left = left
+withLeaf Closing n left = left
+withLeaf Refused n left = left
+
+-- The same past k bytes, dots and opening ones, from a byte on.
+unfoldable pub nodesPast : List ℕ → ℕ → ℕ → ℕ → ℕ
+nodesPast s at n zero = n
+nodesPast s at n (suc k) = withNode (meaningOf (getD s (at + k) 0)) (nodesPast s at n k)
+
+unfoldable pub leavesPast : List ℕ → ℕ → ℕ → List ℕ → ℕ → List ℕ
+leavesPast s at n left zero = left
+leavesPast s at n left (suc k) = withLeaf (meaningOf (getD s (at + k) 0)) (nodesPast s at n k) (leavesPast s at n left k)
+
+-- So many dots and opening bytes stand from a byte on.
+abbrev pub Down : List ℕ → ℕ → ℕ → Type 0
+Down s at k = (i : ℕ) → i < k → (meaningOf (getD s (at + i) 0) ≡ Unpaired) ⊎ (meaningOf (getD s (at + i) 0) ≡ Opening)
+
+-- They are passed, up to a closing byte, a refused one or the end.
+pub record Descended (s : List ℕ) (at n : ℕ) (left : List ℕ) (x : Reached) (after : List ℕ) : Type 0 where
+  pub bytes : ℕ
+  pub passed : x .at ≡ at + bytes
+  pub inside : x .at ≤ length s
+  pub down : Down s at bytes
+  pub counted : x .n ≡ nodesPast s at n bytes
+  pub written : after ≡ leavesPast s at n left bytes
+  pub stops : (meaningOf (getD s (x .at) 0) ≡ Closing) ⊎ (meaningOf (getD s (x .at) 0) ≡ Refused)

@@ -1,7 +1,10 @@
 // Reading a run of items: a run and an item call each other, with fewer bytes left at each call.
 use super::character::Meaning;
 use super::character::meaning_of;
-ghost use Rattle.tree.specs.Building.{Ready, RunRead, ItemRead};
+ghost use mathlib.Core.Path.{_≡_};
+ghost use lib.ListN.{getD};
+ghost use Rattle.tree.specs.Reading.{meaningOf};
+ghost use Rattle.tree.specs.Building.{Ready, RunRead, ItemRead, Descended, closing};
 
 // How far a text is read: up to the byte at `at`, with n nodes before it.
 pub struct Reached {
@@ -43,24 +46,95 @@ fn read_item(text: &[u8], at: usize, n: usize, left: &mut [u8]) -> Reached
             }
         }
         Meaning::Opening => {
-            let inner = read_run(text, at + 1, n, left);
+            let inner = read_inside(text, at + 1, n, left);
             let close = inner.at;
-            if text.len() <= close {
+            if !closes(text, close) {
                 return Reached { at, n };
             }
-            let end = meaning_of(text[close]);
-            match end {
-                Meaning::Closing => {
-                    let node = inner.n;
-                    left[node] = n as u8;
-                    Reached {
-                        at: close + 1,
-                        n: node + 1,
-                    }
-                }
-                _ => Reached { at, n },
+            let node = inner.n;
+            left[node] = n as u8;
+            Reached {
+                at: close + 1,
+                n: node + 1,
             }
         }
         _ => Reached { at, n },
     }
+}
+
+// Whether a closing byte stands at a place.
+fn closes(text: &[u8], at: usize) -> bool
+    ensures { λ r. ⌜ r ≡ closing (meaningOf (getD (now (text .entry)) at 0)) ⌝ }
+{
+    if text.len() <= at {
+        return false;
+    }
+    let meaning = meaning_of(text[at]);
+    match meaning {
+        Meaning::Closing => true,
+        _ => false,
+    }
+}
+
+// Passes the dots and the opening bytes from a byte on, as far as they go, and writes the leaves of the dots.
+fn descend(text: &[u8], at: usize, n: usize, left: &mut [u8]) -> Reached
+    requires { ⌜ Ready (now text) at n (now left) ⌝ }
+    ensures { λ r. ⌜ Descended (now (text .entry)) at n (now (left .entry)) r (now (left .exit)) ⌝ }
+{
+    let mut i = at;
+    let mut m = n;
+    while i < text.len() {
+        let meaning = meaning_of(text[i]);
+        match meaning {
+            Meaning::Unpaired => {
+                left[m] = m as u8;
+                m += 1;
+            }
+            Meaning::Opening => {}
+            _ => return Reached { at: i, n: m },
+        }
+        i += 1;
+    }
+    Reached { at: i, n: m }
+}
+
+// The run inside a bracket pair. The brackets that open before one is closed are passed first, and then closed from the last on, each with the
+// rest of the run that it stands in: so brackets that open inside one another make no call go deeper.
+fn read_inside(text: &[u8], at: usize, n: usize, left: &mut [u8]) -> Reached
+    requires { ⌜ Ready (now text) at n (now left) ⌝ }
+    ensures { λ r. ⌜ RunRead (now (text .entry)) at n (now (left .entry)) r (now (left .exit)) ⌝ }
+{
+    let mut here = descend(text, at, n, left);
+    let mut m = here.n;
+    let mut p = here.at;
+    while at < p {
+        p -= 1;
+        let meaning = meaning_of(text[p]);
+        match meaning {
+            Meaning::Unpaired => {
+                m -= 1;
+            }
+            _ => {
+                if closes(text, here.at) {
+                    let node = here.n;
+                    left[node] = m as u8;
+                    here = read_rest(text, here.at + 1, node + 1, left);
+                } else {
+                    here = Reached { at: p, n: m };
+                }
+            }
+        }
+    }
+    here
+}
+
+// The rest of a run behind a bracket pair. Often there is none, and then nothing is called.
+fn read_rest(text: &[u8], at: usize, n: usize, left: &mut [u8]) -> Reached
+    requires { ⌜ Ready (now text) at n (now left) ⌝ }
+    ensures { λ r. ⌜ RunRead (now (text .entry)) at n (now (left .entry)) r (now (left .exit)) ⌝ }
+{
+    if closes(text, at) {
+        return Reached { at, n };
+    }
+    read_run(text, at, n, left)
 }
