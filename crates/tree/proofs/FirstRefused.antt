@@ -1,5 +1,6 @@
 -- The first refused byte of a text. Assumes nothing.
 use mathlib.Core.Path.{_≡_, refl, sym, ap, ap₂, _∙_}
+use mathlib.Core.Bool.{Bool, true, false, _&&_, false≢true}
 use mathlib.Core.Logic.{_⊎_, ⊎-elim}
 use Prim.Native.Nat.{ℕ, suc, _+_, _≤_, _<_}
 use native.Mathlib.Omega.{arith}
@@ -7,7 +8,7 @@ use native.Mathlib.Numerals.{add-one}
 use mathlib.Core.List.{List, [], _∷_, _++_, nil≢cons, head-eq-of-cons-eq, tail-eq-of-cons-eq}
 use lib.ListN.{length, getD, drop, length-append, drop-of-length-le}
 use lib.Seq.{drop-cons}
-use Rattle.tree.specs.Reading.{meaningOf, orNext, firstRefused}
+use Rattle.tree.specs.Reading.{meaningOf, known, allKnown, orNext, firstRefused}
 use Rattle.tree.specs.Grounds.{UnknownByteAt, First, Never}
 use Rattle.tree.specs.declared.character.Meaning.{Meaning}
 use Rattle.tree.specs.declared.character.Meaning.the-variants.{Unpaired, Opening, Closing, Refused}
@@ -18,6 +19,51 @@ next-of Unpaired h n = refl
 next-of Opening h n = refl
 next-of Closing h n = refl
 next-of Refused h n = absurd (⊎-elim (λ x. omega arith) (⊎-elim (λ x. omega arith) (λ x. omega arith)) h)
+
+-- The look whether every byte is known: what it has found up to i, and what the rest has.
+pub known-or : (m : Meaning) → (tag m ≡ 0) ⊎ ((tag m ≡ 1) ⊎ (tag m ≡ 2)) → true ≡ known m
+known-or Unpaired h = refl
+known-or Opening h = refl
+known-or Closing h = refl
+known-or Refused h = absurd (⊎-elim (λ x. omega arith) (⊎-elim (λ x. omega arith) (λ x. omega arith)) h)
+
+and-assoc : (a b c : Bool) → (a && (b && c)) ≡ ((a && b) && c)
+and-assoc true b c = refl
+and-assoc false b c = refl
+
+and-true : (a : Bool) → (a && true) ≡ a
+and-true true = refl
+and-true false = refl
+
+pub record KnownTo (s : List ℕ) (i : ℕ) (all : Bool) : Type 0 where
+  pub is : allKnown s ≡ (all && allKnown (drop i s))
+
+pub known-start : (s : List ℕ) → KnownTo s 0 true
+known-start s = record { is = refl }
+
+pub known-turn : (s : List ℕ) (i : ℕ) {all k r : Bool} → i < length s → KnownTo s i all → k ≡ known (meaningOf (getD s i 0)) → r ≡ (all && k) → KnownTo s (i + 1) r
+known-turn s i {all} {k} lt h f g =
+    record {
+      is = h .is
+          ∙ ap (λ (x : List ℕ). all && allKnown x) (drop-cons s i 0 lt)
+          ∙ ap₂ (λ (b : Bool) (j : ℕ). all && (b && allKnown (drop j s))) (sym f) (sym (add-one i))
+          ∙ and-assoc all k (allKnown (drop (i + 1) s))
+          ∙ ap (λ (b : Bool). b && allKnown (drop (i + 1) s)) (sym g);
+    }
+
+pub known-end : (s : List ℕ) (i : ℕ) {all : Bool} → length s ≤ i → KnownTo s i all → all ≡ allKnown s
+known-end s i {all} l h = sym (h .is ∙ ap (λ (x : List ℕ). all && allKnown x) (drop-of-length-le s l) ∙ and-true all)
+
+-- If every byte is known, none is refused.
+pub known-all : (s : List ℕ) → allKnown s ≡ true → length s ≡ firstRefused s
+known-all [] e = refl
+known-all (c ∷ s) e = go (meaningOf c) e (known-all s)
+  where
+    go : (m : Meaning) → (known m && allKnown s) ≡ true → (allKnown s ≡ true → length s ≡ firstRefused s) → suc (length s) ≡ orNext m (firstRefused s)
+    go Unpaired h rec = ap suc (rec h)
+    go Opening h rec = ap suc (rec h)
+    go Closing h rec = ap suc (rec h)
+    go Refused h rec = absurd (false≢true h)
 
 -- The search for the first refused byte: it stops at i, or goes on, or has passed the end.
 module _ (s : List ℕ) (i : ℕ) where

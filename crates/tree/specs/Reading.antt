@@ -1,6 +1,6 @@
 -- What reading a text must answer (document 01, "Structures as trees", grounds 1 to 4). Assumes nothing.
 use mathlib.Core.Path.{_≡_}
-use mathlib.Core.Bool.{Bool, true, false, cond}
+use mathlib.Core.Bool.{Bool, true, false, cond, _&&_}
 use Prim.Native.Nat.{ℕ, suc, _+_, _-_, _≤_}
 use mathlib.Core.List.{List, [], _∷_, _++_}
 use lib.ListN.{length, getD, take, replicate}
@@ -50,6 +50,17 @@ onto Refused x rs = last end
 abbrev pub runs : List ℕ → Runs
 runs [] = last end
 runs (c ∷ s) = onto (meaningOf c) c (runs s)
+
+-- Whether no byte is refused.
+abbrev pub known : Meaning → Bool
+known Unpaired = true
+known Opening = true
+known Closing = true
+known Refused = false
+
+abbrev pub allKnown : List ℕ → Bool
+allKnown [] = true
+allKnown (c ∷ s) = known (meaningOf c) && allKnown s
 
 -- Where the first refused byte stands, or the text's length.
 abbrev pub orNext : Meaning → ℕ → ℕ

@@ -1,6 +1,7 @@
 // What the bytes of a text mean.
 ghost use mathlib.Core.Path.{_≡_};
-ghost use Rattle.tree.specs.Reading.{meaningOf, firstRefused};
+ghost use mathlib.Core.Bool.{_&&_};
+ghost use Rattle.tree.specs.Reading.{meaningOf, known, allKnown, firstRefused};
 
 pub enum Meaning {
     Unpaired,
@@ -20,10 +21,43 @@ pub fn meaning_of(byte: u8) -> Meaning
     }
 }
 
-// Where the first refused byte stands, or the text's length.
+// Whether a byte is not refused.
+fn is_known(byte: u8) -> bool
+    ensures { λ r. ⌜ r ≡ known (meaningOf byte) ⌝ }
+{
+    let meaning = meaning_of(byte);
+    match meaning {
+        Meaning::Refused => false,
+        _ => true,
+    }
+}
+
+fn both(a: bool, b: bool) -> bool
+    ensures { λ r. ⌜ r ≡ (a && b) ⌝ }
+{
+    if a { b } else { false }
+}
+
+// Whether no byte is refused. No byte ends the loop, so that many bytes are looked at in one step.
+fn all_known(text: &[u8]) -> bool
+    ensures { λ r. ⌜ r ≡ allKnown (now (text .entry)) ⌝ }
+{
+    let mut all = true;
+    let mut i = 0;
+    while i < text.len() {
+        all = both(all, is_known(text[i]));
+        i += 1;
+    }
+    all
+}
+
+// Where the first refused byte stands, or the text's length. Only a text that has one is searched.
 pub fn first_refused(text: &[u8]) -> usize
     ensures { λ r. ⌜ r ≡ firstRefused (now (text .entry)) ⌝ }
 {
+    if all_known(text) {
+        return text.len();
+    }
     let mut i = 0;
     while i < text.len() {
         let meaning = meaning_of(text[i]);

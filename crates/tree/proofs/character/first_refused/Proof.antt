@@ -1,10 +1,10 @@
 -- `tree::character::first_refused` meets its contract: no byte before i is refused. Assumes nothing.
-use mathlib.Core.Path.{_≡_}
+use mathlib.Core.Path.{_≡_, sym, _∙_}
 use Prim.Native.Nat.{_+_, _-_, _≤_}
 use native.Mathlib.Omega.{arith}
 use lib.ListN.{length, drop}
 use Rattle.tree.specs.Reading.{firstRefused}
-use Rattle.tree.proofs.FirstRefused.{refused-none, refused-here, refused-later}
+use Rattle.tree.proofs.FirstRefused.{known-all, refused-none, refused-here, refused-later}
 use Rattle.tree.proofs.character.first_refused.Statement.{statement}
 use Rattle.tree.proofs.character.first_refused.Tie as tie
 
@@ -13,6 +13,12 @@ Inv-loop text i₀ i = (i ≤ length text) × (firstRefused text ≡ i + firstRe
 
 abbrev μ-loop : tie.MeasureT-loop
 μ-loop text i₀ i = length text - i
+
+all-known-requires : tie.Need-all-known-requires Inv-loop μ-loop
+all-known-requires c κs = tt
+
+returns : tie.Need-returns Inv-loop μ-loop
+returns c = known-all (c .before .before .before .args .text .now) (sym (c .before .all-known .ensures) ∙ c .if1 .taken)
 
 loop-holds : tie.Need-loop-holds Inv-loop μ-loop
 loop-holds c = (omega arith, omega arith)
@@ -26,8 +32,8 @@ meaning-of-requires c κs = tt
 enum-told : tie.Need-enum-told Inv-loop μ-loop
 enum-told c = c .match .keys1
 
-returns : tie.Need-returns Inv-loop μ-loop
-returns c = refused-here _ _ (c .before .before .before .before .loop-test .taken) (c .before .before .meaning-of .result) (c .before .before .meaning-of .ensures) (c .before .before .before .before .before .loop .inv .1) (c .enum-told .given .1)
+returns-2 : tie.Need-returns-2 Inv-loop μ-loop
+returns-2 c = refused-here _ _ (c .before .before .before .before .loop-test .taken) (c .before .before .meaning-of .result) (c .before .before .meaning-of .ensures) (c .before .before .before .before .before .loop .inv .1) (c .enum-told .given .1)
 
 add-i : tie.Need-add-i Inv-loop μ-loop
 add-i c = omega arith
@@ -38,8 +44,8 @@ loop-less c = omega arith
 loop-again : tie.Need-loop-again Inv-loop μ-loop
 loop-again c = (omega arith, refused-later _ _ (c .before .before .before .loop-test .taken) (c .before .meaning-of .result) (c .before .meaning-of .ensures) (c .before .before .before .before .loop .inv .1) (c .match .keys2))
 
-returns-2 : tie.Need-returns-2 Inv-loop μ-loop
-returns-2 c = refused-none _ _ (c .loop-test .left) (c .before .loop .inv .1)
+returns-3 : tie.Need-returns-3 Inv-loop μ-loop
+returns-3 c = refused-none _ _ (c .loop-test .left) (c .before .loop .inv .1)
 
 pub first-refused-spec : {M : Type 1} → statement M
 first-refused-spec =
@@ -47,12 +53,14 @@ first-refused-spec =
     (tie.spec
     Inv-loop
     μ-loop
+    all-known-requires
+    returns
     loop-holds
     shared-slice-read-meaning-of
     meaning-of-requires
     enum-told
-    returns
+    returns-2
     add-i
     loop-less
     loop-again
-    returns-2)
+    returns-3)

@@ -1,0 +1,52 @@
+-- `tree::character::all_known` meets its contract. Assumes nothing.
+use Prim.Native.Nat.{_-_, _≤_}
+use native.Mathlib.Omega.{arith}
+use lib.ListN.{length}
+use Rattle.tree.proofs.FirstRefused.{KnownTo, known-start, known-turn, known-end}
+use Rattle.tree.proofs.character.all_known.Statement.{statement}
+use Rattle.tree.proofs.character.all_known.Tie as tie
+
+abbrev Inv-loop : tie.InvT-loop
+Inv-loop text all₀ i₀ all i = (i ≤ length text) × KnownTo text i all
+
+abbrev μ-loop : tie.MeasureT-loop
+μ-loop text all₀ i₀ all i = length text - i
+
+loop-holds : tie.Need-loop-holds Inv-loop μ-loop
+loop-holds c = (omega arith, known-start _)
+
+shared-slice-read-is-known : tie.Need-shared-slice-read-is-known Inv-loop μ-loop
+shared-slice-read-is-known c = c .before .loop-test .taken
+
+is-known-requires : tie.Need-is-known-requires Inv-loop μ-loop
+is-known-requires c κs = tt
+
+both-requires : tie.Need-both-requires Inv-loop μ-loop
+both-requires c κs = tt
+
+add-i : tie.Need-add-i Inv-loop μ-loop
+add-i c = omega (arith, c .before .before .before .loop-test .taken)
+
+loop-less : tie.Need-loop-less Inv-loop μ-loop
+loop-less c = omega (arith, c .before .before .before .loop-test .taken)
+
+loop-again : tie.Need-loop-again Inv-loop μ-loop
+loop-again c = (omega (arith, c .before .before .before .loop-test .taken), known-turn _ _ (c .before .before .before .loop-test .taken) (c .before .before .before .before .loop .inv .1) (c .before .is-known .ensures) (c .both .ensures))
+
+returns : tie.Need-returns Inv-loop μ-loop
+returns c = known-end _ _ (c .loop-test .left) (c .before .loop .inv .1)
+
+pub all-known-spec : {M : Type 1} → statement M
+all-known-spec =
+    tie.close
+    (tie.spec
+    Inv-loop
+    μ-loop
+    loop-holds
+    shared-slice-read-is-known
+    is-known-requires
+    both-requires
+    add-i
+    loop-less
+    loop-again
+    returns)
