@@ -13,7 +13,6 @@ use lib.Seq.{getD-set-same, getD-set-other}
 use Rattle.tree.proofs.Leaves.{lt-or-le}
 use Rattle.optimum.specs.Key.{Key, empty, better, inMask}
 use Rattle.optimum.specs.Table.{maxBelow, stored}
-use Rattle.optimum.proofs.Booleans.{T-eq}
 use Rattle.optimum.proofs.Keys.{_≼_, ≼-refl, ≼-trans, ≼-antisym, better-l, better-r, better-ind}
 use Rattle.optimum.proofs.Maxima.{max-empty, max-upper, max-least}
 use Rattle.best.specs.Table.{keyAt, rows, minus, marked, Rising}

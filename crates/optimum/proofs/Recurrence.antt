@@ -1,12 +1,12 @@
 -- The table gives the best key: whatever fills a row by the recurrence does. Assumes nothing.
-use mathlib.Core.Path.{_≡_, refl, sym, ap, _∙_}
-use mathlib.Core.Bool.{Bool, true, not, _&&_}
+use mathlib.Core.Path.{_≡_, sym, ap, _∙_}
+use mathlib.Core.Bool.{Bool, true, _&&_}
 use Prim.Native.Nat.{ℕ, zero, suc, _≤_, _<_}
 use native.Mathlib.Omega.{arith}
 use lib.Dec.{T}
 use Rattle.optimum.specs.Key.{Key, empty, _⊕_, better}
 use Rattle.optimum.specs.Table.{Items, chainable, bestOf, Laws, withUnder, maxBelow, Filled, Row}
-use Rattle.optimum.proofs.Booleans.{Is, yes, no, is, T-eq, T-neq, T-ext, and-i, and-l, and-r, up-to}
+use Rattle.optimum.proofs.Booleans.{Is, yes, no, is, T-ext, and-i, and-l, and-r, up-to}
 use Rattle.optimum.proofs.Keys.{_≼_, ≼-trans, ≼-mono, ⊕-comm, ⊕-empty}
 use Rattle.optimum.proofs.Maxima.{max-in, max-out, max-cong, max-upper}
 use Rattle.optimum.proofs.Chains.{best-out, best-cong, best-none}

@@ -158,13 +158,13 @@ module _ (s : List ℕ) (at n : ℕ) (left : List ℕ) where
       pub climb-inside : here .at < length s
       climb-inside = closed-inside s (here .at) closed
 
-      pub climb-ready : Ready s (here .at + 1) (here .n + 1) (set now (here .n) m)
-      climb-ready =
+      pub climb-ready : (leaf : ℕ) → Ready s (here .at + 1) (here .n + 1) (set now (here .n) leaf)
+      climb-ready leaf =
           record {
             short = ready .short;
             inside = omega (arith, climb-inside);
             fewer = omega (arith, fewer-nodes (h .read) (climb-few (ready .fewer)));
-            room = omega (arith, ready .room, h .kept, length-set now (here .n) m);
+            room = omega (arith, ready .room, h .kept, length-set now (here .n) leaf);
           }
 
     -- One byte back.

@@ -1,5 +1,5 @@
 -- `best::table::best_in` meets its contract: the highest is looked at, and taken off with what is left of it. Assumes nothing.
-use Prim.Native.Nat.{ℕ, _^_, _<_}
+use Prim.Native.Nat.{_^_, _<_}
 use native.Mathlib.Omega.{arith}
 use Rattle.optimum.specs.Table.{stored}
 use Rattle.best.specs.Table.{keyAt, rows}

@@ -132,7 +132,7 @@ read-inside-add-read-rest-2 : (t : ℕ) → read-inside-lts.Need-add-read-rest-2
 read-inside-add-read-rest-2 t c = omega (arith, fewer-nodes (c .before .before .before .before .before .before .before .loop .inv _ (c .before .before .before .before .before .before .before .before .before .before .descend .ensures) .read) (climb-few _ _ _ _ (c .before .before .before .before .before .before .before .loop .inv _ (c .before .before .before .before .before .before .before .before .before .before .descend .ensures)) (c .before .before .before .before .before .before .before .before .before .before .before .before .before .before .pre .1 .fewer)), climb-inside _ _ _ _ (c .before .before .before .before .before .before .before .loop .inv _ (c .before .before .before .before .before .before .before .before .before .before .descend .ensures)) (c .before .before .before .before .before .before .before .before .before .before .before .before .before .before .pre .1) (sym (c .before .before .closes .ensures) ∙ c .before .if1 .taken), c .before .before .before .before .before .before .before .before .before .before .before .before .before .before .pre .1 .short)
 
 read-inside-read-rest-requires : (t : ℕ) → read-inside-lts.Need-read-rest-requires (read-inside-claims t) (read-inside-at t) read-inside.Post read-inside-Inv-loop read-inside-μ-loop
-read-inside-read-rest-requires t c κs = (omega (arith, c .before .before .before .before .before .before .before .before .before .before .before .before .before .before .before .pre .0, c .before .before .before .before .before .before .before .loop-test .taken, climb-onward _ _ _ _ (c .before .before .before .before .before .before .before .before .loop .inv _ (c .before .before .before .before .before .before .before .before .before .before .before .descend .ensures)), climb-inside _ _ _ _ (c .before .before .before .before .before .before .before .before .loop .inv _ (c .before .before .before .before .before .before .before .before .before .before .before .descend .ensures)) (c .before .before .before .before .before .before .before .before .before .before .before .before .before .before .before .pre .1) (sym (c .before .before .before .closes .ensures) ∙ c .before .before .if1 .taken)), climb-ready _ _ _ _ (c .before .before .before .before .before .before .before .before .loop .inv _ (c .before .before .before .before .before .before .before .before .before .before .before .descend .ensures)) (c .before .before .before .before .before .before .before .before .before .before .before .before .before .before .before .pre .1) (sym (c .before .before .before .closes .ensures) ∙ c .before .before .if1 .taken))
+read-inside-read-rest-requires t c κs = (omega (arith, c .before .before .before .before .before .before .before .before .before .before .before .before .before .before .before .pre .0, c .before .before .before .before .before .before .before .loop-test .taken, climb-onward _ _ _ _ (c .before .before .before .before .before .before .before .before .loop .inv _ (c .before .before .before .before .before .before .before .before .before .before .before .descend .ensures)), climb-inside _ _ _ _ (c .before .before .before .before .before .before .before .before .loop .inv _ (c .before .before .before .before .before .before .before .before .before .before .before .descend .ensures)) (c .before .before .before .before .before .before .before .before .before .before .before .before .before .before .before .pre .1) (sym (c .before .before .before .closes .ensures) ∙ c .before .before .if1 .taken)), climb-ready _ _ _ _ (c .before .before .before .before .before .before .before .before .loop .inv _ (c .before .before .before .before .before .before .before .before .before .before .before .descend .ensures)) (c .before .before .before .before .before .before .before .before .before .before .before .before .before .before .before .pre .1) (sym (c .before .before .before .closes .ensures) ∙ c .before .before .if1 .taken) _)
 
 read-inside-loop-less-2 : (t : ℕ) → read-inside-lts.Need-loop-less-2 (read-inside-claims t) (read-inside-at t) read-inside.Post read-inside-Inv-loop read-inside-μ-loop
 read-inside-loop-less-2 t c = omega (arith, c .before .before .before .before .before .before .before .before .before .before .loop-test .taken)
@@ -242,52 +242,22 @@ read-run-Inv-loop text at n left₀ here₀ left here = ReadSoFar text at n left
 abbrev read-run-μ-loop : read-run-lts.MeasureT-loop
 read-run-μ-loop text at n left₀ here₀ left here = length text - here .at
 
-read-run-loop-holds : (t : ℕ) →
-    read-run-lts.Need-loop-holds
-    (read-item-below t, read-item.Post)
-    (read-run-at t)
-    read-run.Post
-    read-run-Inv-loop
-    read-run-μ-loop
+read-run-loop-holds : (t : ℕ) → read-run-lts.Need-loop-holds (read-run-claims t) (read-run-at t) read-run.Post read-run-Inv-loop read-run-μ-loop
 read-run-loop-holds t c = run-starts _ _ _ _ (c .before .before .pre .1)
 
 read-run-read-item-requires : (t : ℕ) → read-run-lts.Need-read-item-requires (read-run-claims t) (read-run-at t) read-run.Post read-run-Inv-loop read-run-μ-loop
 read-run-read-item-requires t c κs = (omega (arith, c .before .loop .inv .onward, c .before .before .before .before .pre .0), c .before .loop .inv .ready)
 
-read-run-same-length : (t : ℕ) →
-    read-run-lts.Need-same-length
-    (read-item-below t, read-item.Post)
-    (read-run-at t)
-    read-run.Post
-    read-run-Inv-loop
-    read-run-μ-loop
+read-run-same-length : (t : ℕ) → read-run-lts.Need-same-length (read-run-claims t) (read-run-at t) read-run.Post read-run-Inv-loop read-run-μ-loop
 read-run-same-length t c = c .before .before .before .before .before .read-item .kept .1 .1 .1 .0 ∙ c .before .before .before .before .before .before .before .loop .inv .kept
 
-read-run-returns : (t : ℕ) →
-    read-run-lts.Need-returns
-    (read-item-below t, read-item.Post)
-    (read-run-at t)
-    read-run.Post
-    read-run-Inv-loop
-    read-run-μ-loop
+read-run-returns : (t : ℕ) → read-run-lts.Need-returns (read-run-claims t) (read-run-at t) read-run.Post read-run-Inv-loop read-run-μ-loop
 read-run-returns t c = run-ends _ _ _ _ _ _ (c .before .before .before .before .before .before .before .loop .inv) _ _ (c .before .before .before .before .before .read-item .ensures) (c .if1 .taken)
 
-read-run-loop-less : (t : ℕ) →
-    read-run-lts.Need-loop-less
-    (read-item-below t, read-item.Post)
-    (read-run-at t)
-    read-run.Post
-    read-run-Inv-loop
-    read-run-μ-loop
+read-run-loop-less : (t : ℕ) → read-run-lts.Need-loop-less (read-run-claims t) (read-run-at t) read-run.Post read-run-Inv-loop read-run-μ-loop
 read-run-loop-less t c = let h = run-goes-on _ _ _ _ _ _ (c .before .before .before .before .before .before .before .loop .inv) _ _ (c .before .before .before .before .before .read-item .ensures) (c .if1 .left) (c .before .before .before .before .before .read-item .kept .1 .1 .1 .0) in omega (arith, h .ready .inside, c .before .before .before .before .before .read-item .ensures .passed)
 
-read-run-loop-again : (t : ℕ) →
-    read-run-lts.Need-loop-again
-    (read-item-below t, read-item.Post)
-    (read-run-at t)
-    read-run.Post
-    read-run-Inv-loop
-    read-run-μ-loop
+read-run-loop-again : (t : ℕ) → read-run-lts.Need-loop-again (read-run-claims t) (read-run-at t) read-run.Post read-run-Inv-loop read-run-μ-loop
 read-run-loop-again t c = run-goes-on _ _ _ _ _ _ (c .before .before .before .before .before .before .before .loop .inv) _ _ (c .before .before .before .before .before .read-item .ensures) (c .if1 .left) (c .before .before .before .before .before .read-item .kept .1 .1 .1 .0)
 
 pub +read-inside+read-item+read-rest+read-run-spec : {M : Type 1} → statement M
