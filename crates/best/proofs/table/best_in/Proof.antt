@@ -21,7 +21,7 @@ highest-requires : tie.Need-highest-requires Inv-loop μ-loop
 highest-requires c κs = c .loop-test .taken
 
 key-at-requires : tie.Need-key-at-requires Inv-loop μ-loop
-key-at-requires c κs = (c .highest .ensures .few, c .before .before .before .before .before .pre .long)
+key-at-requires c κs = omega (arith, c .highest .ensures .few, c .before .before .before .before .before .pre .long)
 
 better-of-requires : tie.Need-better-of-requires Inv-loop μ-loop
 better-of-requires c κs = tt
