@@ -85,7 +85,8 @@ fn lasts(nodes: &[u8], bounds: &[u16], numbers: &[u8], count: usize) -> [u8; 64]
 }
 
 // How the seeds before place y stand to the seed of uq and ut, which is there. The last nodes of all are in rq and rt, and the masks of those
-// before y in lefts and unders: what is left of a seed or under it stands as it does, and is not looked at.
+// before y in lefts and unders: what is under a seed stands as that seed does, what is left of one that stands left is left too, and neither is
+// looked at.
 fn masks_at(
     lq: &[u8],
     lt: &[u8],

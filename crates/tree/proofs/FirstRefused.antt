@@ -20,7 +20,6 @@ next-of Opening h n = refl
 next-of Closing h n = refl
 next-of Refused h n = absurd (⊎-elim (λ x. omega arith) (⊎-elim (λ x. omega arith) (λ x. omega arith)) h)
 
--- The look whether every byte is known: what it has found up to i, and what the rest has.
 pub known-or : (m : Meaning) → (tag m ≡ 0) ⊎ ((tag m ≡ 1) ⊎ (tag m ≡ 2)) → true ≡ known m
 known-or Unpaired h = refl
 known-or Opening h = refl
@@ -35,6 +34,7 @@ and-true : (a : Bool) → (a && true) ≡ a
 and-true true = refl
 and-true false = refl
 
+-- The look whether every byte is known: what it has found up to i, and what the rest has.
 pub record KnownTo (s : List ℕ) (i : ℕ) (all : Bool) : Type 0 where
   pub is : allKnown s ≡ (all && allKnown (drop i s))
 

@@ -51,7 +51,7 @@ abbrev pub runs : List ℕ → Runs
 runs [] = last end
 runs (c ∷ s) = onto (meaningOf c) c (runs s)
 
--- Whether no byte is refused.
+-- Whether a byte of some meaning is not refused, and whether no byte of a text is.
 abbrev pub known : Meaning → Bool
 known Unpaired = true
 known Opening = true

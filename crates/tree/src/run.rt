@@ -13,7 +13,7 @@ pub struct Reached {
 }
 
 // The run at a byte, as far as it goes. The n nodes before it have their leftmost leaves in `left`, and its own are written behind them. Its
-// items are read in a loop, so that only a bracket pair makes the calls go deeper.
+// items are read in a loop, so that an item behind another makes no call go deeper.
 pub fn read_run(text: &[u8], at: usize, n: usize, left: &mut [u8]) -> Reached
     requires { ⌜ Ready (now text) at n (now left) ⌝ }
     ensures { λ r. ⌜ RunRead (now (text .entry)) at n (now (left .entry)) r (now (left .exit)) ⌝ }
@@ -99,7 +99,7 @@ fn descend(text: &[u8], at: usize, n: usize, left: &mut [u8]) -> Reached
 }
 
 // The run inside a bracket pair. The brackets that open before one is closed are passed first, and then closed from the last on, each with the
-// rest of the run that it stands in: so brackets that open inside one another make no call go deeper.
+// rest of the run that it stands in: so they make no call go deeper.
 fn read_inside(text: &[u8], at: usize, n: usize, left: &mut [u8]) -> Reached
     requires { ⌜ Ready (now text) at n (now left) ⌝ }
     ensures { λ r. ⌜ RunRead (now (text .entry)) at n (now (left .entry)) r (now (left .exit)) ⌝ }

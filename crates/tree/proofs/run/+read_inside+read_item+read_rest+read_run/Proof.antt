@@ -1,156 +1,26 @@
--- `tree::run::read_run`, `read_item`, `read_inside` and `read_rest` meet their contracts. The number that falls is three times the bytes left,
--- with one more for the run and two for the rest of one. Assumes nothing.
+-- `tree::run::read_run`, `read_item`, `read_inside` and `read_rest` meet their contracts. Assumes nothing.
+mod Claims
+mod Inside
 use mathlib.Core.Path.{sym, _∙_}
 use mathlib.Core.Logic.{inl}
-use mathlib.Core.List.{List}
-use Prim.Native.Nat.{ℕ, _<_, _+_, _*_, _-_}
+use Prim.Native.Nat.{ℕ, _-_}
 use native.Mathlib.Omega.{arith}
 use lib.ListN.{length, length-set}
 use borrow.Author.Tests.{not-true, not-false}
-use Rattle.tree.specs.Building.{Descended}
 use Rattle.tree.proofs.Growing.{item-end, item-other, item-dot, item-unclosed, item-closed, is-closing, closed-inside, ready-inside, fewer-nodes, ReadSoFar, run-starts, run-goes-on, run-ends}
-use Rattle.tree.proofs.Descents.{none-at, Climbed, climb-start, climb-few, climb-onward, climb-end, climb-inside, climb-ready, climb-dot, climb-opens, climb-closed, climb-stuck}
-use borrow.Fn.Kinds.{In}
-use borrow.Fn.PlainCycle.{Measures, is, falls, and}
+use Rattle.tree.proofs.Descents.{none-at}
+use Rattle.tree.proofs.run.+read_inside+read_item+read_rest+read_run.Proof.Claims.{μ-read-inside, μ-read-item, μ-read-rest, μ-read-run, read-inside-at, read-item-at, read-rest-at, read-run-at, read-inside-claims, read-item-claims, read-rest-claims, read-run-claims}
+use Rattle.tree.proofs.run.+read_inside+read_item+read_rest+read_run.Proof.Inside as inside
 use Rattle.tree.proofs.run.read_inside.Reads as read-inside
-use Rattle.tree.proofs.run.read_inside.Kinds as read-inside-kinds
 use Rattle.tree.proofs.run.+read_inside+read_item+read_rest+read_run.Lts-read_inside as read-inside-lts
 use Rattle.tree.proofs.run.read_item.Reads as read-item
-use Rattle.tree.proofs.run.read_item.Kinds as read-item-kinds
 use Rattle.tree.proofs.run.+read_inside+read_item+read_rest+read_run.Lts-read_item as read-item-lts
 use Rattle.tree.proofs.run.read_rest.Reads as read-rest
-use Rattle.tree.proofs.run.read_rest.Kinds as read-rest-kinds
 use Rattle.tree.proofs.run.+read_inside+read_item+read_rest+read_run.Lts-read_rest as read-rest-lts
 use Rattle.tree.proofs.run.read_run.Reads as read-run
-use Rattle.tree.proofs.run.read_run.Kinds as read-run-kinds
 use Rattle.tree.proofs.run.+read_inside+read_item+read_rest+read_run.Lts-read_run as read-run-lts
-use Rattle.tree.proofs.character.meaning_of.Reads as meaning-of-reads
-use Rattle.tree.proofs.run.closes.Reads as closes-reads
-use Rattle.tree.proofs.run.descend.Reads as descend-reads
 use Rattle.tree.proofs.run.+read_inside+read_item+read_rest+read_run.{statement}
 use Rattle.tree.proofs.run.+read_inside+read_item+read_rest+read_run.Tie.{close}
-
-abbrev μ-read-inside : Measures 2 read-inside-kinds.ps ℕ
-μ-read-inside κs a = 3 * (length (a .0 .now) - a .1 .0)
-
-abbrev μ-read-item : Measures 2 read-item-kinds.ps ℕ
-μ-read-item κs a = 3 * (length (a .0 .now) - a .1 .0)
-
-abbrev μ-read-rest : Measures 2 read-rest-kinds.ps ℕ
-μ-read-rest κs a = 3 * (length (a .0 .now) - a .1 .0) + 2
-
-abbrev μ-read-run : Measures 2 read-run-kinds.ps ℕ
-μ-read-run κs a = 3 * (length (a .0 .now) - a .1 .0) + 1
-
-abbrev read-inside-at : ℕ → In 2 read-inside-kinds.ps
-read-inside-at t =
-    and 2 read-inside-kinds.ps (is 2 read-inside-kinds.ps μ-read-inside t) read-inside.Pre
-
-abbrev read-inside-below : ℕ → In 2 read-inside-kinds.ps
-read-inside-below t =
-    and 2 read-inside-kinds.ps (falls 2 read-inside-kinds.ps _<_ μ-read-inside t) read-inside.Pre
-
-abbrev read-item-at : ℕ → In 2 read-item-kinds.ps
-read-item-at t = and 2 read-item-kinds.ps (is 2 read-item-kinds.ps μ-read-item t) read-item.Pre
-
-abbrev read-item-below : ℕ → In 2 read-item-kinds.ps
-read-item-below t =
-    and 2 read-item-kinds.ps (falls 2 read-item-kinds.ps _<_ μ-read-item t) read-item.Pre
-
-abbrev read-rest-at : ℕ → In 2 read-rest-kinds.ps
-read-rest-at t = and 2 read-rest-kinds.ps (is 2 read-rest-kinds.ps μ-read-rest t) read-rest.Pre
-
-abbrev read-rest-below : ℕ → In 2 read-rest-kinds.ps
-read-rest-below t =
-    and 2 read-rest-kinds.ps (falls 2 read-rest-kinds.ps _<_ μ-read-rest t) read-rest.Pre
-
-abbrev read-run-at : ℕ → In 2 read-run-kinds.ps
-read-run-at t = and 2 read-run-kinds.ps (is 2 read-run-kinds.ps μ-read-run t) read-run.Pre
-
-abbrev read-run-below : ℕ → In 2 read-run-kinds.ps
-read-run-below t =
-    and 2 read-run-kinds.ps (falls 2 read-run-kinds.ps _<_ μ-read-run t) read-run.Pre
-
-abbrev read-inside-claims : ℕ → read-inside-lts.Claims
-read-inside-claims t = (descend-reads.Asked, descend-reads.Learnt, meaning-of-reads.Asked, meaning-of-reads.Learnt, closes-reads.Asked, closes-reads.Learnt, read-rest-below t, read-rest.Post)
-
-abbrev read-item-claims : ℕ → read-item-lts.Claims
-read-item-claims t = (meaning-of-reads.Asked, meaning-of-reads.Learnt, read-inside-below t, read-inside.Post, closes-reads.Asked, closes-reads.Learnt)
-
-abbrev read-rest-claims : ℕ → read-rest-lts.Claims
-read-rest-claims t = (closes-reads.Asked, closes-reads.Learnt, read-run-below t, read-run.Post)
-
-abbrev read-run-claims : ℕ → read-run-lts.Claims
-read-run-claims t = (read-item-below t, read-item.Post)
-
-abbrev read-inside-Inv-loop : read-inside-lts.InvT-loop
-read-inside-Inv-loop text at n left₀ here₀ m₀ p₀ left here m p = (l : List ℕ) → Descended text at n l here₀ left₀ → Climbed text at n l p m here left
-
-abbrev read-inside-μ-loop : read-inside-lts.MeasureT-loop
-read-inside-μ-loop text at n left₀ here₀ m₀ p₀ left here m p = p
-
-read-inside-descend-requires : (t : ℕ) → read-inside-lts.Need-descend-requires (read-inside-claims t) (read-inside-at t) read-inside.Post read-inside-Inv-loop read-inside-μ-loop
-read-inside-descend-requires t c κs = c .before .before .before .pre .1
-
-read-inside-loop-holds : (t : ℕ) → read-inside-lts.Need-loop-holds (read-inside-claims t) (read-inside-at t) read-inside.Post read-inside-Inv-loop read-inside-μ-loop
-read-inside-loop-holds t c = λ l d. climb-start _ _ _ _ _ _ d
-
-read-inside-sub-p : (t : ℕ) → read-inside-lts.Need-sub-p (read-inside-claims t) (read-inside-at t) read-inside.Post read-inside-Inv-loop read-inside-μ-loop
-read-inside-sub-p t c = omega (arith, c .loop-test .taken)
-
-read-inside-shared-slice-read-meaning-of : (t : ℕ) → read-inside-lts.Need-shared-slice-read-meaning-of (read-inside-claims t) (read-inside-at t) read-inside.Post read-inside-Inv-loop read-inside-μ-loop
-read-inside-shared-slice-read-meaning-of t c = omega (arith, c .before .loop-test .taken, (c .before .before .loop .inv _ (c .before .before .before .before .before .descend .ensures)) .inside)
-
-read-inside-meaning-of-requires : (t : ℕ) → read-inside-lts.Need-meaning-of-requires (read-inside-claims t) (read-inside-at t) read-inside.Post read-inside-Inv-loop read-inside-μ-loop
-read-inside-meaning-of-requires t c κs = tt
-
-read-inside-enum-told : (t : ℕ) → read-inside-lts.Need-enum-told (read-inside-claims t) (read-inside-at t) read-inside.Post read-inside-Inv-loop read-inside-μ-loop
-read-inside-enum-told t c = c .match .keys1
-
-read-inside-sub-m : (t : ℕ) → read-inside-lts.Need-sub-m (read-inside-claims t) (read-inside-at t) read-inside.Post read-inside-Inv-loop read-inside-μ-loop
-read-inside-sub-m t c = climb-dot _ _ _ _ (c .before .before .before .before .before .loop .inv _ (c .before .before .before .before .before .before .before .before .descend .ensures)) (c .before .before .before .before .loop-test .taken) (sym (c .before .before .meaning-of .ensures) ∙ c .enum-told .given .1) .0
-
-read-inside-loop-less : (t : ℕ) → read-inside-lts.Need-loop-less (read-inside-claims t) (read-inside-at t) read-inside.Post read-inside-Inv-loop read-inside-μ-loop
-read-inside-loop-less t c = omega (arith, c .before .before .before .before .loop-test .taken)
-
-read-inside-loop-again : (t : ℕ) → read-inside-lts.Need-loop-again (read-inside-claims t) (read-inside-at t) read-inside.Post read-inside-Inv-loop read-inside-μ-loop
-read-inside-loop-again t c = λ l d. climb-dot _ _ _ _ (c .before .before .before .before .before .loop .inv l d) (c .before .before .before .before .loop-test .taken) (sym (c .before .before .meaning-of .ensures) ∙ c .enum-told .given .1) .1
-
-read-inside-closes-requires : (t : ℕ) → read-inside-lts.Need-closes-requires (read-inside-claims t) (read-inside-at t) read-inside.Post read-inside-Inv-loop read-inside-μ-loop
-read-inside-closes-requires t c κs = tt
-
-read-inside-cast-left : (t : ℕ) → read-inside-lts.Need-cast-left (read-inside-claims t) (read-inside-at t) read-inside.Post read-inside-Inv-loop read-inside-μ-loop
-read-inside-cast-left t c = omega (arith, climb-few _ _ _ _ (c .before .before .before .before .before .before .loop .inv _ (c .before .before .before .before .before .before .before .before .before .descend .ensures)) (c .before .before .before .before .before .before .before .before .before .before .before .before .before .pre .1 .fewer), (c .before .before .before .before .before .before .loop .inv _ (c .before .before .before .before .before .before .before .before .before .descend .ensures)) .inside, c .before .before .before .before .before .before .before .before .before .before .before .before .before .pre .1 .short)
-
-read-inside-slice-write-left : (t : ℕ) → read-inside-lts.Need-slice-write-left (read-inside-claims t) (read-inside-at t) read-inside.Post read-inside-Inv-loop read-inside-μ-loop
-read-inside-slice-write-left t c = omega (arith, fewer-nodes (c .before .before .before .before .before .before .loop .inv _ (c .before .before .before .before .before .before .before .before .before .descend .ensures) .read) (climb-few _ _ _ _ (c .before .before .before .before .before .before .loop .inv _ (c .before .before .before .before .before .before .before .before .before .descend .ensures)) (c .before .before .before .before .before .before .before .before .before .before .before .before .before .pre .1 .fewer)), climb-inside _ _ _ _ (c .before .before .before .before .before .before .loop .inv _ (c .before .before .before .before .before .before .before .before .before .descend .ensures)) (c .before .before .before .before .before .before .before .before .before .before .before .before .before .pre .1) (sym (c .before .closes .ensures) ∙ c .if1 .taken), (c .before .before .before .before .before .before .loop .inv _ (c .before .before .before .before .before .before .before .before .before .descend .ensures)) .kept, c .before .before .before .before .before .before .before .before .before .before .before .before .before .pre .1 .room)
-
-read-inside-add-read-rest : (t : ℕ) → read-inside-lts.Need-add-read-rest (read-inside-claims t) (read-inside-at t) read-inside.Post read-inside-Inv-loop read-inside-μ-loop
-read-inside-add-read-rest t c = omega (arith, climb-inside _ _ _ _ (c .before .before .before .before .before .before .before .loop .inv _ (c .before .before .before .before .before .before .before .before .before .before .descend .ensures)) (c .before .before .before .before .before .before .before .before .before .before .before .before .before .before .pre .1) (sym (c .before .before .closes .ensures) ∙ c .before .if1 .taken), c .before .before .before .before .before .before .before .before .before .before .before .before .before .before .pre .1 .short)
-
-read-inside-add-read-rest-2 : (t : ℕ) → read-inside-lts.Need-add-read-rest-2 (read-inside-claims t) (read-inside-at t) read-inside.Post read-inside-Inv-loop read-inside-μ-loop
-read-inside-add-read-rest-2 t c = omega (arith, fewer-nodes (c .before .before .before .before .before .before .before .loop .inv _ (c .before .before .before .before .before .before .before .before .before .before .descend .ensures) .read) (climb-few _ _ _ _ (c .before .before .before .before .before .before .before .loop .inv _ (c .before .before .before .before .before .before .before .before .before .before .descend .ensures)) (c .before .before .before .before .before .before .before .before .before .before .before .before .before .before .pre .1 .fewer)), climb-inside _ _ _ _ (c .before .before .before .before .before .before .before .loop .inv _ (c .before .before .before .before .before .before .before .before .before .before .descend .ensures)) (c .before .before .before .before .before .before .before .before .before .before .before .before .before .before .pre .1) (sym (c .before .before .closes .ensures) ∙ c .before .if1 .taken), c .before .before .before .before .before .before .before .before .before .before .before .before .before .before .pre .1 .short)
-
-read-inside-read-rest-requires : (t : ℕ) → read-inside-lts.Need-read-rest-requires (read-inside-claims t) (read-inside-at t) read-inside.Post read-inside-Inv-loop read-inside-μ-loop
-read-inside-read-rest-requires t c κs = (omega (arith, c .before .before .before .before .before .before .before .before .before .before .before .before .before .before .before .pre .0, c .before .before .before .before .before .before .before .loop-test .taken, climb-onward _ _ _ _ (c .before .before .before .before .before .before .before .before .loop .inv _ (c .before .before .before .before .before .before .before .before .before .before .before .descend .ensures)), climb-inside _ _ _ _ (c .before .before .before .before .before .before .before .before .loop .inv _ (c .before .before .before .before .before .before .before .before .before .before .before .descend .ensures)) (c .before .before .before .before .before .before .before .before .before .before .before .before .before .before .before .pre .1) (sym (c .before .before .before .closes .ensures) ∙ c .before .before .if1 .taken)), climb-ready _ _ _ _ (c .before .before .before .before .before .before .before .before .loop .inv _ (c .before .before .before .before .before .before .before .before .before .before .before .descend .ensures)) (c .before .before .before .before .before .before .before .before .before .before .before .before .before .before .before .pre .1) (sym (c .before .before .before .closes .ensures) ∙ c .before .before .if1 .taken) _)
-
-read-inside-loop-less-2 : (t : ℕ) → read-inside-lts.Need-loop-less-2 (read-inside-claims t) (read-inside-at t) read-inside.Post read-inside-Inv-loop read-inside-μ-loop
-read-inside-loop-less-2 t c = omega (arith, c .before .before .before .before .before .before .before .before .before .before .loop-test .taken)
-
-read-inside-loop-again-2 : (t : ℕ) → read-inside-lts.Need-loop-again-2 (read-inside-claims t) (read-inside-at t) read-inside.Post read-inside-Inv-loop read-inside-μ-loop
-read-inside-loop-again-2 t c = λ l d. climb-closed _ _ _ _ (c .before .before .before .before .before .before .before .before .before .before .before .loop .inv l d) (c .before .before .before .before .before .before .before .before .before .before .loop-test .taken) (climb-opens _ _ _ _ (c .before .before .before .before .before .before .before .before .before .before .before .loop .inv l d) (c .before .before .before .before .before .before .before .before .before .before .loop-test .taken) _ (c .before .before .before .before .before .before .before .before .meaning-of .ensures) (c .before .before .before .before .before .before .before .match .keys2)) (sym (c .before .before .before .before .before .before .closes .ensures) ∙ c .before .before .before .before .before .if1 .taken) _ _ (c .before .before .read-rest .ensures) (c .before .before .read-rest .kept .1 .1 .1 .0 ∙ simp length-set (c .before .before .before .before .before .before .before .before .before .before .before .loop .inv l d .kept))
-
-read-inside-loop-less-3 : (t : ℕ) → read-inside-lts.Need-loop-less-3 (read-inside-claims t) (read-inside-at t) read-inside.Post read-inside-Inv-loop read-inside-μ-loop
-read-inside-loop-less-3 t c = omega (arith, c .before .before .before .before .before .loop-test .taken)
-
-read-inside-loop-again-3 : (t : ℕ) → read-inside-lts.Need-loop-again-3 (read-inside-claims t) (read-inside-at t) read-inside.Post read-inside-Inv-loop read-inside-μ-loop
-read-inside-loop-again-3 t c = λ l d. climb-stuck _ _ _ _ (c .before .before .before .before .before .before .loop .inv l d) (c .before .before .before .before .before .loop-test .taken) (climb-opens _ _ _ _ (c .before .before .before .before .before .before .loop .inv l d) (c .before .before .before .before .before .loop-test .taken) _ (c .before .before .before .meaning-of .ensures) (c .before .before .match .keys2)) (sym (c .before .closes .ensures) ∙ c .if1 .left)
-
-read-inside-same-length : (t : ℕ) → read-inside-lts.Need-same-length (read-inside-claims t) (read-inside-at t) read-inside.Post read-inside-Inv-loop read-inside-μ-loop
-read-inside-same-length t c = (c .before .loop .inv _ (c .before .before .before .before .descend .ensures)) .kept
-
-read-inside-returns : (t : ℕ) → read-inside-lts.Need-returns (read-inside-claims t) (read-inside-at t) read-inside.Post read-inside-Inv-loop read-inside-μ-loop
-read-inside-returns t c = climb-end _ _ _ _ (c .before .loop .inv _ (c .before .before .before .before .descend .ensures)) (omega (arith, c .loop-test .left))
 
 read-item-returns : (t : ℕ) → read-item-lts.Need-returns (read-item-claims t) (read-item-at t) read-item.Post
 read-item-returns t c = item-end _ _ _ _ (c .if1 .taken)
@@ -265,29 +135,29 @@ pub +read-inside+read-item+read-rest+read-run-spec : {M : Type 1} → statement 
     close μ-read-inside μ-read-item μ-read-rest μ-read-run (λ t. read-inside-lts.spec (read-inside-claims t)
     (read-inside-at t)
     read-inside.Post
-    read-inside-Inv-loop
-    read-inside-μ-loop
-    (read-inside-descend-requires t)
-    (read-inside-loop-holds t)
-    (read-inside-sub-p t)
-    (read-inside-shared-slice-read-meaning-of t)
-    (read-inside-meaning-of-requires t)
-    (read-inside-enum-told t)
-    (read-inside-sub-m t)
-    (read-inside-loop-less t)
-    (read-inside-loop-again t)
-    (read-inside-closes-requires t)
-    (read-inside-cast-left t)
-    (read-inside-slice-write-left t)
-    (read-inside-add-read-rest t)
-    (read-inside-add-read-rest-2 t)
-    (read-inside-read-rest-requires t)
-    (read-inside-loop-less-2 t)
-    (read-inside-loop-again-2 t)
-    (read-inside-loop-less-3 t)
-    (read-inside-loop-again-3 t)
-    (read-inside-same-length t)
-    (read-inside-returns t))
+    inside.read-inside-Inv-loop
+    inside.read-inside-μ-loop
+    (inside.read-inside-descend-requires t)
+    (inside.read-inside-loop-holds t)
+    (inside.read-inside-sub-p t)
+    (inside.read-inside-shared-slice-read-meaning-of t)
+    (inside.read-inside-meaning-of-requires t)
+    (inside.read-inside-enum-told t)
+    (inside.read-inside-sub-m t)
+    (inside.read-inside-loop-less t)
+    (inside.read-inside-loop-again t)
+    (inside.read-inside-closes-requires t)
+    (inside.read-inside-cast-left t)
+    (inside.read-inside-slice-write-left t)
+    (inside.read-inside-add-read-rest t)
+    (inside.read-inside-add-read-rest-2 t)
+    (inside.read-inside-read-rest-requires t)
+    (inside.read-inside-loop-less-2 t)
+    (inside.read-inside-loop-again-2 t)
+    (inside.read-inside-loop-less-3 t)
+    (inside.read-inside-loop-again-3 t)
+    (inside.read-inside-same-length t)
+    (inside.read-inside-returns t))
     (λ t. read-item-lts.spec (read-item-claims t)
     (read-item-at t)
     read-item.Post
