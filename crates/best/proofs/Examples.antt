@@ -9,7 +9,7 @@ use Rattle.answer.specs.Answer.{Said, said}
 use Rattle.answer.specs.Answer.Said.{accepted, refused}
 use Rattle.answer.specs.declared.Place.the-variants.{Nothing}
 use Rattle.tree.specs.Nested.{leaf}
-use Rattle.seed.specs.Judge.{every, above}
+use Rattle.seed.specs.Tests.{every, above}
 use Rattle.seed.specs.AreaList.{side, level, fits, left, under, chainable}
 use Rattle.seed.specs.Pairs.{pairOf}
 use Rattle.seed.specs.declared.Pair.{Pair}

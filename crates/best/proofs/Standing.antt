@@ -11,7 +11,7 @@ use lib.ListN.{length, getD, set, drop, length-set, length-drop}
 use lib.Seq.{getD-set-same, getD-set-other, getD-take, getD-drop, length-take-le}
 use Rattle.tree.specs.Nested.{leaf}
 use Rattle.seed.specs.AreaList.{fits, left, under}
-use Rattle.seed.specs.Judge.{above}
+use Rattle.seed.specs.Tests.{above}
 use Rattle.seed.specs.Pairs.{pairOf, pairsOf}
 use Rattle.seed.specs.Seed.{lastPair}
 use Rattle.seed.specs.Store.{between}

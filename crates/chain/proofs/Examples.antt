@@ -11,7 +11,8 @@ use Rattle.tree.specs.Nested.{leaf}
 use Rattle.tree.specs.Reading as tree
 use Rattle.tree.specs.Reading.{leavesOf}
 use Rattle.seed.specs.Tab.{tab}
-use Rattle.seed.specs.Judge.{every, some, everyBelow, above, inside, nodeIn, nodesIn, risesFrom, rises, alikeAt, alikeTo, alike, rootOf, rooted, spans, children, paired, bordered, judgeOf}
+use Rattle.seed.specs.Tests.{every, some, everyBelow, above, inside, nodeIn, nodesIn, risesFrom, rises, alikeAt, alikeTo, alike, rootOf, rooted, spans, children, paired, bordered}
+use Rattle.judge.specs.Judge.{judgeOf}
 use Rattle.seed.specs.AreaList.{side, level, fits, left, under, chainable, firstBelow, lastBelow, column, boxAt, begins, boxRow, boxes, areas, bytesOf}
 use Rattle.seed.specs.declared.Pair.{Pair}
 use Rattle.optimum.specs.Key.{inMask, empty, _⊕_, noBetter, better}

@@ -19,12 +19,12 @@ use Rattle.answer.specs.declared.Answer.the-variants.{Accepted, Refused}
 use Rattle.tree.specs.Nested.{Nested}
 use Rattle.tree.specs.Reading.{leavesOf}
 use Rattle.seed.specs.Area.{Box}
-use Rattle.seed.specs.Judge.{judgeOf}
-use Rattle.seed.specs.Grounds as seed
+use Rattle.judge.specs.Judge.{judgeOf}
+use Rattle.judge.specs.Grounds as seed
 use Rattle.seed.specs.Listed.{listedOf}
 use Rattle.seed.specs.declared.Pair.{Pair}
 use Rattle.seed.specs.declared.area.Listed.{Listed}
-use Rattle.seed.proofs.Grounds as judge
+use Rattle.judge.proofs.Grounds as judge
 use Rattle.seed.proofs.Tells.{Tells, tells-le, tells-lt, tells-eq, tells-and, tells-not}
 use Rattle.optimum.proofs.Booleans.{T-eq}
 use Rattle.best.specs.Best.{scratchNeeded, bestOf}

@@ -18,11 +18,11 @@ use Rattle.tree.proofs.Trees.{tree-nested}
 use Rattle.seed.specs.Seed.{Seed}
 use Rattle.seed.specs.Pairs.{pairOf, pairsOf}
 use Rattle.seed.specs.Store.{bound, between, pairsAt, Laid}
-use Rattle.seed.specs.Judge.{judgeOf}
+use Rattle.judge.specs.Judge.{judgeOf}
 use Rattle.seed.specs.declared.Pair.{Pair}
 use Rattle.seed.specs.declared.Store.{Store}
 use Rattle.seed.proofs.PairLists.{count-first, count-most}
-use Rattle.seed.proofs.Grounds.{accepts-seeds}
+use Rattle.judge.proofs.Grounds.{accepts-seeds}
 use Rattle.chain.specs.State.{Row, unless, newRow, pairCount, inRange, countAnswer, limitAnswer, addAnswer, add, numberGiven}
 use Rattle.chain.specs.Storing.{withSeed, Room}
 use Rattle.seed.specs.Tab.{tab}

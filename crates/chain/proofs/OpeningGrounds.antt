@@ -18,7 +18,7 @@ use Rattle.tree.specs.Reading.{leavesOf}
 use Rattle.tree.specs.Grounds as text
 use Rattle.tree.proofs.Grounds as texts
 use Rattle.tree.proofs.Trees.{tree-nested}
-use Rattle.seed.specs.Judge.{judgeOf}
+use Rattle.judge.specs.Judge.{judgeOf}
 use Rattle.deck.specs.Deck as deck
 use Rattle.deck.specs.Deck.{DeckRow, chainsOf}
 use Rattle.deck.specs.Handed.{answerOf, rowsIn}

@@ -14,7 +14,7 @@ use Rattle.answer.specs.declared.Place.{Place}
 use Rattle.answer.specs.declared.Place.the-variants.{ByteInQ, ByteInT, Seed, Nothing}
 use Rattle.tree.specs.Reading.{leavesOf}
 use Rattle.tree.specs.Grounds as tree
-use Rattle.seed.specs.Grounds as seed
+use Rattle.judge.specs.Grounds as seed
 use Rattle.seed.specs.declared.Pair.{Pair}
 use Rattle.best.specs.Best.{scratchNeeded}
 use Rattle.deck.specs.Deck.{DeckRow, plainOf, reading}

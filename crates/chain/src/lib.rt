@@ -1,7 +1,7 @@
 // A session on two structures: seeds are added, withdrawn, brought back and rescored, and the best chain of those present is worked out.
 mod adding;
 mod deck_seeds;
-mod judge;
+mod limits;
 mod opening;
 mod store;
 
@@ -14,9 +14,9 @@ use best::Best;
 use deck::Written;
 use deck_seeds::judge_seeds;
 use deck_seeds::session_with;
-use judge::given_out;
-use judge::judge_move;
-use judge::judge_rescore;
+use limits::given_out;
+use limits::judge_move;
+use limits::judge_rescore;
 use opening::read_both;
 use opening::session_on;
 use seed::Store;

@@ -10,11 +10,9 @@ pub mod ChainTest
 pub mod Laws
 pub mod Children
 pub mod SeedTest
-pub mod Grounds
 pub mod PairLists
 pub mod Scans
 pub mod StandSteps
-pub mod JudgeSteps
 pub mod Search
 pub mod Below
 pub mod Convex
@@ -27,5 +25,5 @@ pub mod GapLists
 pub mod GapSteps
 pub mod AreaSteps
 pub mod AreaParts
-mod Examples
+pub mod Examples
 mod AreaExamples

@@ -3,10 +3,9 @@ pub mod Paths
 pub mod Seed
 pub mod Chain
 pub mod Area
-pub mod Grounds
 pub mod Pairs
 pub mod Store
-pub mod Judge
+pub mod Tests
 pub mod AreaList
 pub mod Gaps
 pub mod Listed

@@ -1,0 +1,19 @@
+-- `chain::limits::in_range` meets its contract. Assumes nothing.
+use mir.Facts.{toZ-ofZ}
+use Rattle.chain.specs.State.{inRange}
+use Rattle.chain.proofs.limits.in_range.Statement.{statement}
+use Rattle.chain.proofs.limits.in_range.Tie as tie
+
+returns : tie.Need-returns
+unfolding inRange
+returns c = let f = (c .before .fits .score) in
+    let h = rw (toZ-ofZ f) at (c .if1 .taken) in
+    rw (toZ-ofZ f, h)
+
+returns-2 : tie.Need-returns-2
+unfolding inRange
+returns-2 c = let h = rw (toZ-ofZ (c .before .fits .score)) at (c .if1 .left) in
+    rw h
+
+pub in-range-spec : {M : Type 1} → statement M
+in-range-spec = tie.close (tie.spec returns returns-2)

@@ -1,0 +1,146 @@
+// Judging a list of pairs that is to be a seed: grounds 15 to 19, in time that grows with the nodes and the pairs.
+mod ancestry;
+mod border;
+
+use ancestry::alike;
+use answer::Answer;
+use answer::Ground;
+use answer::Place;
+use border::bordered;
+use seed::leaf_at;
+use seed::pair_count;
+use tree::Tree;
+ghost use mathlib.Core.Path.{_≡_};
+ghost use mathlib.Core.Bool.{true, _&&_};
+ghost use lib.ListN.{length};
+ghost use Rattle.answer.specs.declared.Answer.the-variants as answer;
+ghost use Rattle.answer.specs.declared.Place.the-variants as place;
+ghost use Rattle.tree.specs.Nested.{Nested};
+ghost use Rattle.tree.specs.Reading.{IsTree, leavesOf};
+ghost use Rattle.seed.specs.Seed as seed;
+ghost use Rattle.seed.specs.Pairs.{pairsOf};
+ghost use Rattle.seed.specs.Tests as test;
+ghost use Rattle.judge.specs.Judge.{judgeOf};
+ghost use Rattle.judge.specs.Steps.{Risen, BothUnderLast};
+
+// Whether each pair joins a node below n and a node below m.
+fn nodes_in(n: usize, m: usize, qs: &[u8], ts: &[u8]) -> bool
+    ensures { λ r. ⌜ r ≡ test.every (test.nodeIn n m) (pairsOf (now (qs .entry)) (now (ts .entry))) ⌝ }
+{
+    let count = pair_count(qs, ts);
+    let mut k = 0;
+    while k < count {
+        if n <= qs[k] as usize {
+            return false;
+        }
+        if m <= ts[k] as usize {
+            return false;
+        }
+        k += 1;
+    }
+    true
+}
+
+// Whether the nodes rise strictly.
+fn rises(xs: &[u8]) -> bool
+    ensures { λ r. ⌜ r ≡ test.rises (now (xs .entry)) ⌝ }
+{
+    let mut k = 1;
+    while k < xs.len() {
+        if xs[k] <= xs[k - 1] {
+            return false;
+        }
+        k += 1;
+    }
+    true
+}
+
+// Whether the q and the t of the pairs both rise strictly.
+fn both_rise(qs: &[u8], ts: &[u8]) -> bool
+    ensures { λ r. ⌜ r ≡ (test.rises (seed.qs (pairsOf (now (qs .entry)) (now (ts .entry)))) && test.rises (seed.ts (pairsOf (now (qs .entry)) (now (ts .entry))))) ⌝ }
+{
+    let count = pair_count(qs, ts);
+    if rises(&qs[..count]) {
+        return rises(&ts[..count]);
+    }
+    false
+}
+
+// Whether the last pair is an ancestor of all others: its subtrees start at the first pair's nodes or before them.
+fn rooted(lq: &[u8], lt: &[u8], qs: &[u8], ts: &[u8]) -> bool
+    requires { ⌜ Risen (now lq) (now lt) (now qs) (now ts) ⌝ }
+    ensures { λ r. ⌜ r ≡ test.rooted (now (lq .entry)) (now (lt .entry)) (pairsOf (now (qs .entry)) (now (ts .entry))) ⌝ }
+{
+    let n = qs.len();
+    if n == 0 {
+        return true;
+    }
+    if (qs[0] as usize) < leaf_at(lq, qs[n - 1] as usize) {
+        return false;
+    }
+    leaf_at(lt, ts[n - 1] as usize) <= ts[0] as usize
+}
+
+// Whether every border node of both spans is in a pair.
+fn both_bordered(lq: &[u8], lt: &[u8], qs: &[u8], ts: &[u8], tops: &mut [u8]) -> bool
+    requires { ⌜ BothUnderLast (now lq) (now lt) (now qs) (now ts) ⌝ ∗ ⌜ length (now tops) ≡ 256 ⌝ }
+    ensures { λ r. ⌜ r ≡ (test.bordered (now (lq .entry)) (seed.qs (pairsOf (now (qs .entry)) (now (ts .entry)))) && test.bordered (now (lt .entry)) (seed.ts (pairsOf (now (qs .entry)) (now (ts .entry))))) ⌝ }
+{
+    if bordered(lq, qs, tops) {
+        return bordered(lt, ts, tops);
+    }
+    false
+}
+
+fn refused(ground: Ground, number: usize) -> Answer
+    ensures { λ r. ⌜ r ≡ answer.Refused ground (place.Seed number) ⌝ }
+{
+    Answer::Refused {
+        ground,
+        place: Place::Seed(number),
+    }
+}
+
+// What is answered of a list that passed the grounds 15 and 16, its q and its t in two lists of one length.
+fn judge_risen(lq: &[u8], lt: &[u8], qs: &[u8], ts: &[u8], number: usize) -> Answer
+    requires { ⌜ Risen (now lq) (now lt) (now qs) (now ts) ⌝ }
+    ensures { λ r. ⌜ r ≡ judgeOf (now (lq .entry)) (now (lt .entry)) (pairsOf (now (qs .entry)) (now (ts .entry))) number ⌝ }
+{
+    let mut places: [u8; 256] = [0; 256];
+    if !alike(lq, lt, qs, ts, &mut places[..]) {
+        return refused(Ground::AncestryDiffers, number);
+    }
+    if !rooted(lq, lt, qs, ts) {
+        return refused(Ground::LastNotAncestor, number);
+    }
+    if !both_bordered(lq, lt, qs, ts, &mut places[..]) {
+        return refused(Ground::BorderUnpaired, number);
+    }
+    Answer::Accepted
+}
+
+// What is answered of a list that is to be seed number `number` on the trees of two lists of leftmost leaves.
+pub fn judge_on(lq: &[u8], lt: &[u8], qs: &[u8], ts: &[u8], number: usize) -> Answer
+    requires { ⌜ (Nested (now lq)) × (Nested (now lt)) ⌝ }
+    ensures { λ r. ⌜ r ≡ judgeOf (now (lq .entry)) (now (lt .entry)) (pairsOf (now (qs .entry)) (now (ts .entry))) number ⌝ }
+{
+    if !nodes_in(lq.len(), lt.len(), qs, ts) {
+        return refused(Ground::OutsideTree, number);
+    }
+    if !both_rise(qs, ts) {
+        return refused(Ground::NotRising, number);
+    }
+    let count = pair_count(qs, ts);
+    judge_risen(lq, lt, &qs[..count], &ts[..count], number)
+}
+
+// What is answered of a list of pairs that is to be seed number `number` on two trees: accepted, or the lowest of the grounds 15 to 19 that
+// holds of it. The list goes as far as both its q and its t do.
+pub fn judge(q: Tree, t: Tree, qs: &[u8], ts: &[u8], number: usize) -> Answer
+    requires { ⌜ (IsTree q) × (IsTree t) ⌝ }
+    ensures { λ r. ⌜ r ≡ judgeOf (leavesOf q) (leavesOf t) (pairsOf (now (qs .entry)) (now (ts .entry))) number ⌝ }
+{
+    let lq = q.left;
+    let lt = t.left;
+    judge_on(&lq[..q.n], &lt[..t.n], qs, ts, number)
+}
