@@ -42,7 +42,7 @@ impl Random {
         items[self.below(items.len())]
     }
 
-    fn shuffle<T>(&mut self, items: &mut [T]) {
+    pub fn shuffle<T>(&mut self, items: &mut [T]) {
         for at in (1..items.len()).rev() {
             items.swap(at, self.below(at + 1));
         }
@@ -51,10 +51,10 @@ impl Random {
 
 /// What an input is made from: two texts, and seeds as scores with pairs.
 #[derive(Clone)]
-struct Draft {
-    q: Vec<u8>,
-    t: Vec<u8>,
-    seeds: Vec<(i32, Vec<Pair>)>,
+pub struct Draft {
+    pub q: Vec<u8>,
+    pub t: Vec<u8>,
+    pub seeds: Vec<(i32, Vec<Pair>)>,
 }
 
 /// Any input: two in five are valid, the others are damaged once or twice.
@@ -108,7 +108,7 @@ fn with_bad_texts(random: &mut Random, mut draft: Draft) -> Vec<u8> {
 // ---- texts ----
 
 /// A structure of just this length; `open` and `close` are chances in a hundred.
-fn structure(random: &mut Random, length: usize, open: usize, close: usize) -> Vec<u8> {
+pub fn structure(random: &mut Random, length: usize, open: usize, close: usize) -> Vec<u8> {
     let mut text = Vec::with_capacity(length);
     let mut depth = 0;
     while text.len() < length {
@@ -280,7 +280,7 @@ fn grow_seed(
     pairs
 }
 
-fn some_score(random: &mut Random, style: usize) -> i32 {
+pub fn some_score(random: &mut Random, style: usize) -> i32 {
     let score = match style {
         0 => random.between(-1_000_000, 1_000_000),
         1 => random.between(-1, 2),
@@ -336,7 +336,7 @@ fn valid_draft(random: &mut Random) -> Draft {
 }
 
 /// Valid seeds of at most `most` pairs on two given texts, never beyond 1,024 pairs in all.
-fn draft_on(
+pub fn draft_on(
     random: &mut Random,
     q: Vec<u8>,
     t: Vec<u8>,
@@ -367,13 +367,13 @@ fn draft_on(
     draft
 }
 
-fn must_read(text: &[u8]) -> Tree {
+pub fn must_read(text: &[u8]) -> Tree {
     read_tree(text).unwrap_or_else(|_| panic!("the text made here is a structure"))
 }
 
 // ---- decks ----
 
-fn join(q: &[u8], t: &[u8], deck: &[u8]) -> Vec<u8> {
+pub fn join(q: &[u8], t: &[u8], deck: &[u8]) -> Vec<u8> {
     [q, b"\n", t, b"\n", deck].concat()
 }
 
@@ -398,7 +398,7 @@ fn encode(seeds: &[(i32, Vec<Pair>)], places: &[usize]) -> Vec<u8> {
     deck
 }
 
-fn plain_deck(seeds: &[(i32, Vec<Pair>)]) -> Vec<u8> {
+pub fn plain_deck(seeds: &[(i32, Vec<Pair>)]) -> Vec<u8> {
     let count = seeds.iter().map(|seed| seed.1.len()).sum();
     encode(seeds, &(0..count).collect::<Vec<_>>())
 }
@@ -542,7 +542,7 @@ fn inner_node(random: &mut Random, tree: &Tree) -> u8 {
     some.max_by_key(|&node| node - tree.left(node)).unwrap_or(0)
 }
 
-fn rising(random: &mut Random, count: usize, size: usize) -> Vec<u8> {
+pub fn rising(random: &mut Random, count: usize, size: usize) -> Vec<u8> {
     let mut all: Vec<u8> = (0..count).map(|node| node as u8).collect();
     random.shuffle(&mut all);
     all.truncate(size);
@@ -797,45 +797,46 @@ fn short_texts(longest: usize) -> Vec<Vec<u8>> {
     inputs
 }
 
-// ---- inputs for the timing ----
-
-pub const SHAPES: [&str; 4] = ["flat", "nested", "comb", "mixed"];
-
-/// A valid input with this many seeds, most of them chainable with one another.
-pub fn timing_input(random: &mut Random, shape: &str, seeds: usize) -> Vec<u8> {
-    let text = match shape {
-        "flat" => b"(.)".repeat(85),
-        "nested" => [b"(".repeat(127), b".".to_vec(), b")".repeat(127)].concat(),
-        "comb" => [b"(.".repeat(85), b")".repeat(85)].concat(),
-        _ => structure(random, 255, 35, 25),
-    };
-    let mut draft = if shape == "mixed" {
-        draft_on(random, text.clone(), text, seeds, 4, 7)
-    } else {
-        row_of_seeds(random, text, seeds, shape != "comb")
-    };
-    draft.seeds.truncate(seeds);
-    join(&draft.q, &draft.t, &plain_deck(&draft.seeds))
+/// Every list of one to three pairs, with a number beyond each tree, on every two structures of up
+/// to four bytes.
+pub fn small_lists(visit: &mut dyn FnMut(&[u8])) {
+    let texts = small_structures(4);
+    for q in &texts {
+        for t in &texts {
+            let (q_count, t_count) = (must_read(q).count, must_read(t).count);
+            let pairs: Vec<Pair> = (0..=q_count)
+                .flat_map(|q| (0..=t_count).map(move |t| (q as u8, t as u8)))
+                .map(|(q, t)| Pair { q, t })
+                .collect();
+            lists_of(&pairs, 3, &mut Vec::new(), &mut |list| {
+                visit(&join(q, t, &plain_deck(&[(1, list.to_vec())])))
+            });
+        }
+    }
 }
 
-/// Seeds of one node, or of two neighbouring nodes, spread over like trees without a common node.
-fn row_of_seeds(random: &mut Random, text: Vec<u8>, seeds: usize, two: bool) -> Draft {
-    let places = (must_read(&text).count - 1) / if two { 2 } else { 1 };
-    let mut chosen = rising(random, places, seeds);
-    random.shuffle(&mut chosen);
-    let list = chosen.iter().map(|&place| {
-        let nodes = if two {
-            2 * place..=2 * place + 1
-        } else {
-            place..=place
-        };
-        let pairs = nodes.map(|node| Pair { q: node, t: node }).collect();
-        (some_score(random, 7), pairs)
-    });
-    let list = list.collect();
-    Draft {
-        q: text.clone(),
-        t: text,
-        seeds: list,
+fn small_structures(longest: usize) -> Vec<Vec<u8>> {
+    let mut found = Vec::new();
+    let mut texts = vec![Vec::new()];
+    for _ in 0..longest {
+        texts = texts
+            .iter()
+            .flat_map(|text| b".()".map(|byte| [&text[..], &[byte]].concat()))
+            .collect();
+        found.extend(texts.iter().filter(|text| read_tree(text).is_ok()).cloned());
+    }
+    found
+}
+
+/// The lists that begin with `list` and have up to `more` pairs beyond it.
+fn lists_of(pairs: &[Pair], more: usize, list: &mut Vec<Pair>, visit: &mut dyn FnMut(&[Pair])) {
+    if more == 0 {
+        return;
+    }
+    for &pair in pairs {
+        list.push(pair);
+        visit(list);
+        lists_of(pairs, more - 1, list, visit);
+        list.pop();
     }
 }

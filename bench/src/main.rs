@@ -1,6 +1,7 @@
 //! Compares the proved library with an independent implementation, and times both.
 
 mod examples;
+mod families;
 mod inputs;
 mod library;
 mod quick;
@@ -170,13 +171,24 @@ fn check_random(count: usize, start: u64) {
     }
 }
 
+/// About eight million lists: only if asked for.
+fn check_lists(checker: &mut Checker) {
+    let mut count = 0;
+    inputs::small_lists(&mut |input| {
+        checker.check(input);
+        count += 1;
+    });
+    println!("lists of up to three pairs on texts of up to four bytes: {count} alike");
+    checker.print_counts();
+}
+
 fn number(argument: Option<String>, default: u64) -> u64 {
     match argument.map(|text| text.parse()) {
         None => default,
         Some(Ok(number)) => number,
         Some(Err(_)) => {
             eprintln!(
-                "usage: gurandyo-bench [how many random inputs] [where the random numbers start]"
+                "usage: gurandyo-bench [how many random inputs] [where the random numbers start], or lists"
             );
             exit(2)
         }
@@ -184,14 +196,17 @@ fn number(argument: Option<String>, default: u64) -> u64 {
 }
 
 fn main() {
-    let mut arguments = std::env::args().skip(1);
-    let count = number(arguments.next(), 20_000) as usize;
-    let start = number(arguments.next(), 1);
     let mut checker = Checker::new();
     match checker.library {
         Some(_) => println!("comparing the library with the reference"),
         None => println!("the library is missing: the reference checks only itself"),
     }
+    let mut arguments = std::env::args().skip(1).peekable();
+    if arguments.next_if(|word| word == "lists").is_some() {
+        return check_lists(&mut checker);
+    }
+    let count = number(arguments.next(), 20_000) as usize;
+    let start = number(arguments.next(), 1);
     check_examples(&mut checker);
     check_fixed(&mut checker);
     check_random(count, start);

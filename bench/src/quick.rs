@@ -28,12 +28,21 @@ fn check_seed(q: &Tree, t: &Tree, seed: &mut Seed, pairs: &[Pair]) -> Result<(),
 }
 
 /// The pairs below a pair are those just before it, so in both trees they must begin at one place.
+/// A pair below is passed with those below it, so that each is looked at once.
 fn ancestry_differs(q: &Tree, t: &Tree, pairs: &[Pair]) -> bool {
-    (1..pairs.len()).any(|at| {
-        let (left_q, left_t) = (q.left(pairs[at].q), t.left(pairs[at].t));
-        let start = pairs[..at].partition_point(|pair| pair.q < left_q);
-        start > 0 && pairs[start - 1].t >= left_t || start < at && pairs[start].t < left_t
-    })
+    let mut starts = [0; 256];
+    for (at, pair) in pairs.iter().enumerate() {
+        let (left_q, left_t) = (q.left(pair.q), t.left(pair.t));
+        let mut start = at;
+        while start > 0 && pairs[start - 1].q >= left_q {
+            start = starts[start - 1];
+        }
+        if start > 0 && pairs[start - 1].t >= left_t || start < at && pairs[start].t < left_t {
+            return true;
+        }
+        starts[at] = start;
+    }
+    false
 }
 
 /// The span, and whether one of its border nodes is unpaired.

@@ -1,12 +1,12 @@
 //! Times the library and the reference on the same inputs.
 
-use crate::inputs::{timing_input, Random, SHAPES};
+use crate::families::{Family, FAMILIES};
+use crate::inputs::Random;
 use crate::library::Library;
 use crate::{quick, reference};
 use std::hint::black_box;
 use std::time::Instant;
 
-const SIZES: [usize; 4] = [8, 16, 32, 64];
 const INPUTS: usize = 16;
 const ROUNDS: usize = 101;
 /// One stint takes about this long, so that the clock's own cost does not show.
@@ -63,13 +63,14 @@ fn contest(sizes: &[Vec<Vec<u8>>], contestants: &mut [Contestant]) -> Vec<Vec<f6
 }
 
 /// Times by size: of the reference, of it by the definitions, and of the library if it is there.
-fn times_of(shape: &str, library: &mut Option<Library>) -> Vec<Vec<f64>> {
+fn times_of(family: &Family, library: &mut Option<Library>) -> Vec<Vec<f64>> {
     let mut random = Random::new(1);
-    let sizes: Vec<Vec<Vec<u8>>> = SIZES
+    let sizes: Vec<Vec<Vec<u8>>> = family
+        .sizes
         .iter()
-        .map(|&seeds| {
+        .map(|&size| {
             (0..INPUTS)
-                .map(|_| timing_input(&mut random, shape, seeds))
+                .map(|_| (family.make)(&mut random, size))
                 .collect()
         })
         .collect();
@@ -108,25 +109,34 @@ fn library_columns(times: &[Vec<f64>], size: usize) -> [String; 3] {
     }
 }
 
-fn print_shape(shape: &str, library: &mut Option<Library>) {
-    println!("\n{shape}: nanoseconds for one input, growth from one size to the next");
+fn print_family(family: &Family, library: &mut Option<Library>) {
     println!(
-        "{:>6}{:>12}{:>8}{:>12}{:>8}{:>20}{:>16}",
-        "seeds", "library", "growth", "reference", "growth", "library/reference", "by definition"
+        "\n{}: nanoseconds for one input, growth from one size to the next",
+        family.name
     );
-    let times = times_of(shape, library);
-    for (size, seeds) in SIZES.iter().enumerate() {
-        let [proved, rise, ratio] = library_columns(&times, size);
-        let (reference, own_rise) = (times[0][size], growth(&times[0], size));
-        let plain = times[1][size];
+    println!(
+        "{:>8}{:>12}{:>8}{:>12}{:>8}{:>20}{:>16}",
+        family.unit,
+        "library",
+        "growth",
+        "reference",
+        "growth",
+        "library/reference",
+        "by definition"
+    );
+    let times = times_of(family, library);
+    for (at, size) in family.sizes.iter().enumerate() {
+        let [proved, rise, ratio] = library_columns(&times, at);
+        let (reference, own_rise) = (times[0][at], growth(&times[0], at));
+        let plain = times[1][at];
         println!(
-            "{seeds:>6}{proved:>12}{rise:>8}{reference:>12.0}{own_rise:>8}{ratio:>20}{plain:>16.0}"
+            "{size:>8}{proved:>12}{rise:>8}{reference:>12.0}{own_rise:>8}{ratio:>20}{plain:>16.0}"
         );
     }
 }
 
 pub fn print_all(library: &mut Option<Library>) {
-    for shape in SHAPES {
-        print_shape(shape, library);
+    for family in &FAMILIES {
+        print_family(family, library);
     }
 }
