@@ -10,7 +10,7 @@ use Rattle.answer.specs.Answer.{Said}
 use Rattle.answer.specs.declared.Answer.{Answer}
 use Rattle.tree.proofs.Trees.{tree-nested}
 use Rattle.seed.specs.declared.Pair.{Pair}
-use Rattle.seed.specs.declared.area.Listed.{Listed}
+use Rattle.area.specs.declared.Listed.{Listed}
 use Rattle.best.specs.declared.Best.{Best}
 use Rattle.deck.specs.Handed.{Writes}
 use Rattle.deck.specs.declared.Written.{Written}

@@ -21,9 +21,9 @@ use Rattle.tree.specs.Reading.{leavesOf}
 use Rattle.seed.specs.Area.{Box}
 use Rattle.judge.specs.Judge.{judgeOf}
 use Rattle.judge.specs.Grounds as seed
-use Rattle.seed.specs.Listed.{listedOf}
+use Rattle.area.specs.Listed.{listedOf}
 use Rattle.seed.specs.declared.Pair.{Pair}
-use Rattle.seed.specs.declared.area.Listed.{Listed}
+use Rattle.area.specs.declared.Listed.{Listed}
 use Rattle.judge.proofs.Grounds as judge
 use Rattle.seed.proofs.Tells.{Tells, tells-le, tells-lt, tells-eq, tells-and, tells-not}
 use Rattle.optimum.proofs.Booleans.{T-eq}

@@ -10,6 +10,7 @@ use adding::with_seed;
 use answer::Answer;
 use answer::Ground;
 use answer::Place;
+use area::Listed;
 use best::Best;
 use deck::Written;
 use deck_seeds::judge_seeds;
@@ -20,7 +21,6 @@ use limits::judge_rescore;
 use opening::read_both;
 use opening::session_on;
 use seed::Store;
-use seed::area::Listed;
 use seed::pair_count;
 use tree::Tree;
 use tree::single_tree;
@@ -28,7 +28,7 @@ ghost use mathlib.Core.Path.{_≡_};
 ghost use Prim.Native.Nat.{_<_};
 ghost use Rattle.tree.specs.Reading.{treeOf, single, leavesOf};
 ghost use Rattle.seed.specs.AreaList.{areas};
-ghost use Rattle.seed.specs.Listed.{ListedRight};
+ghost use Rattle.area.specs.Listed.{ListedRight};
 ghost use Rattle.seed.specs.Pairs.{pairsOf};
 ghost use Rattle.seed.specs.Store.{pairsAt};
 ghost use Rattle.deck.specs.Handed.{Writes};
@@ -152,7 +152,7 @@ fn areas_at(s: Session, at: usize, out: &mut [u8]) -> Listed
     let ts = store.ts;
     let from = store.bounds[at] as usize;
     let to = store.bounds[at + 1] as usize;
-    seed::area::areas(q, t, &qs[from..to], &ts[from..to], out)
+    area::areas(q, t, &qs[from..to], &ts[from..to], out)
 }
 
 impl Session {

@@ -20,10 +20,4 @@ pub mod Boxes
 pub mod BoxList
 pub mod Areas
 pub mod AreaStretches
-pub mod Gaps
-pub mod GapLists
-pub mod GapSteps
-pub mod AreaSteps
-pub mod AreaParts
 pub mod Examples
-mod AreaExamples

@@ -7,5 +7,3 @@ pub mod Pairs
 pub mod Store
 pub mod Tests
 pub mod AreaList
-pub mod Gaps
-pub mod Listed

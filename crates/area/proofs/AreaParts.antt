@@ -1,0 +1,61 @@
+-- The parts of its memory that listing the areas hands on: of trees that were read, of lists that hold a seed, and of arrays of gaps.
+-- Assumes nothing.
+use mathlib.Core.Path.{_≡_, sym, ap, subst, _∙_}
+use mathlib.Core.List.{List}
+use Prim.Native.Nat.{ℕ, _≤_}
+use native.Mathlib.Omega.{arith}
+use lib.ListN.{length, take, length-take}
+use lib.Seq.{take-at}
+use Rattle.tree.specs.Reading.{IsTree, leavesOf}
+use Rattle.tree.specs.declared.Tree.{Tree}
+use Rattle.tree.proofs.Trees.{tree-nodes, tree-length, tree-nested}
+use Rattle.seed.specs.Tab.{tab}
+use Rattle.seed.specs.Area.{Box}
+use Rattle.seed.specs.AreaList.{areas}
+use Rattle.area.specs.Gaps.{gap, filled, boxesBelow}
+use Rattle.area.specs.Listed.{ListedRight}
+use Rattle.seed.specs.Pairs.{pairsOf, Held}
+use Rattle.area.specs.declared.Listed.{Listed}
+use Rattle.seed.proofs.PairLists.{nodes-first, nodes-second, cut-first, cut-second}
+use Rattle.seed.proofs.Tabs.{length-tab}
+use Rattle.area.proofs.Gaps.{seed-few}
+use Rattle.area.proofs.GapLists.{areas-meet}
+
+pub leaves-few : (t : Tree) → IsTree t → length (leavesOf t) ≤ 256
+leaves-few t h = omega (arith, tree-length t h, tree-nodes t h)
+
+-- A seed has no more pairs than a tree has nodes.
+pub pairs-few : (q t : Tree) (a b : List ℕ) → Held q t (pairsOf a b) → (k : ℕ) → k ≡ length (pairsOf a b) → (length (take k a) ≤ 256) × (length (take k b) ≤ 256)
+pairs-few q t a b h k e =
+    let n = seed-few (tree-nested q (h .is-q)) (tree-nested t (h .is-t)) (pairsOf a b) (h .seed) in
+    omega (arith, leaves-few q (h .is-q), cut-first a b e, cut-second a b e)
+
+-- An array that is filled with the gaps of a tree's nodes.
+module _ (t : Tree) (is : IsTree t) (f : ℕ → ℕ) (all : List ℕ) (e : all ≡ filled f (length (leavesOf t))) where
+  filled-take : take (t .n) all ≡ tab (length (leavesOf t)) f
+  filled-take = ap (take (t .n)) e ∙ take-at (tab (length (leavesOf t)) f) _ (t .n) (length-tab (length (leavesOf t)) f ∙ tree-length t is)
+
+  pub filled-length : t .n ≡ length (take (t .n) all)
+  filled-length = sym (ap length filled-take ∙ length-tab (length (leavesOf t)) f ∙ tree-length t is)
+
+  pub filled-within : t .n ≤ length all
+  filled-within = omega (arith, filled-length, length-take (t .n) all)
+
+  pub filled-few : length (take (t .n) all) ≤ 256
+  filled-few = omega (arith, filled-length, tree-nodes t is)
+
+-- The areas of a seed are the boxes of what stands in both arrays.
+pub held-areas :
+    (q t : Tree) (a b : List ℕ) (held : Held q t (pairsOf a b)) (k : ℕ)
+    → k ≡ length (pairsOf a b)
+    → (g h : List ℕ)
+    → g ≡ filled (gap (leavesOf q) (take k a)) (length (leavesOf q))
+    → h ≡ filled (gap (leavesOf t) (take k b)) (length (leavesOf t))
+    → boxesBelow (take (q .n) g) (take (t .n) h) (length (take (q .n) g)) ≡ areas (leavesOf q) (leavesOf t) (pairsOf a b)
+held-areas q t a b held k e g h u v =
+    rw (filled-take q (held .is-q) (gap (leavesOf q) (take k a)) g u, filled-take t (held .is-t) (gap (leavesOf t) (take k b)) h v, e, ← nodes-first a b, ← nodes-second a b)
+    (sym (areas-meet (tree-nested q (held .is-q)) (tree-nested t (held .is-t)) (pairsOf a b) (held .seed) (leaves-few q (held .is-q))))
+
+-- What is right of the same areas is right.
+pub listed-as : (xs ys : List Box) (o : List ℕ) (r : Listed) (after : List ℕ) → xs ≡ ys → ListedRight xs o r after → ListedRight ys o r after
+listed-as xs ys o r after e = subst (λ (zs : List Box). ListedRight zs o r after) e

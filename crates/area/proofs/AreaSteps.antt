@@ -1,0 +1,196 @@
+-- What one step of the code that lists areas does to its counts and searches. Assumes nothing.
+use mathlib.Core.Path.{_≡_, refl, sym, ap, _∙_}
+use mathlib.Core.Bool.{Bool, true, false, not, cond, false≢true}
+use mathlib.Core.Logic.{inl, inr}
+use mathlib.Core.List.{List, [], _∷_, _++_}
+use Prim.Native.Nat.{ℕ, zero, suc, _+_, _*_, _-_, _≤_, _<_}
+use native.Mathlib.Omega.{arith}
+use native.Mathlib.Decide.{ℕ-discrete}
+use native.Mathlib.Nat.{add-zero}
+use native.Mathlib.Numerals.{add-one}
+use lib.ListN.{length, getD, set, length-append}
+use lib.Dec.{eqb}
+use lib.Seq.{sets, length-sets}
+use borrow.Author.Tests.{eq-eqb, ne-eqb, lt-ltb, le-ltb}
+use Rattle.answer.specs.declared.Ground.the-variants.{OutputShort}
+use Rattle.answer.specs.declared.Place.the-variants.{Nothing}
+use Rattle.answer.specs.declared.Answer.the-variants.{Accepted, Refused}
+use Rattle.tree.proofs.Leaves.{lt-or-le}
+use Rattle.seed.specs.Area.{Box}
+use Rattle.seed.specs.AreaList.{firstBelow, lastBelow, column, boxAt, begins, boxRow, boxes, bytesOf}
+use Rattle.area.specs.Gaps.{meets, like, meet, boxFrom, boxesBelow}
+use Rattle.area.specs.Listed.{listedOf, writtenOf, ListedRight}
+
+-- Two gaps compared.
+pub meets-not : (x y : ℕ) → (x ≡ y → ⊥) → meets x y ≡ false
+unfolding meets
+meets-not x y h = rw (ne-eqb x y h)
+
+pub meets-if : (x y : ℕ) → x ≡ y → meets x y ≡ not (eqb x 0)
+unfolding meets
+meets-if x y h = rw (eq-eqb x y h)
+
+pub like-is : (x : ℕ) (g : List ℕ) (i : ℕ) → like x g i ≡ meets x (getD g i 0)
+unfolding like
+like-is x g i = refl
+
+meets-turned : (x y : ℕ) → meets x y ≡ meets y x
+meets-turned x y =
+    elim (ℕ-discrete x y) [
+      | yes e ↦ rw e
+      | no e ↦ meets-not x y e ∙ sym (meets-not y x (λ f. e (sym f)))
+    ]
+
+-- The nodes that fit node c of T are those with its gap.
+column-like : (g h : List ℕ) (c : ℕ) → column (meet g h) c ≡ like (getD h c 0) g
+unfolding column meet like
+column-like g h c = λ k i. meets-turned (getD g i 0) (getD h c 0) k
+
+-- Whether a box begins in row a, whose first column is c.
+module _ (g h : List ℕ) (a c : ℕ) where
+  pub begins-out : length h ≤ c → begins (meet g h) (length h) a c ≡ false
+  unfolding begins
+  begins-out u = rw (le-ltb c (length h) u)
+
+  pub begins-first : c < length h → a ≡ 0 → begins (meet g h) (length h) a c ≡ true
+  unfolding begins
+  begins-first u e = let z : a ≤ 0 = omega arith in rw (lt-ltb c (length h) u, le-ltb 0 a z)
+
+  pub begins-by : c < length h → (a ≡ 0 → ⊥) → begins (meet g h) (length h) a c ≡ not (meets (getD g (a - 1) 0) (getD h c 0))
+  unfolding begins meet like
+  begins-by u e = let z : 0 < a = omega arith in rw (lt-ltb c (length h) u, lt-ltb 0 a z)
+
+pub begins-in : (g h : List ℕ) (a c : ℕ) → begins (meet g h) (length h) a c ≡ true → c < length h
+begins-in g h a c e = elim (lt-or-le c (length h)) [ inl u ↦ u | inr u ↦ absurd (false≢true (sym (begins-out g h a c u) ∙ e)) ]
+
+-- The box of a row, where c is its first column.
+module _ (g h : List ℕ) (a c : ℕ) (first : c ≡ firstBelow (like (getD g a 0) h) (length h)) where
+  pub row-none : begins (meet g h) (length h) a c ≡ false → boxFrom g h a ≡ []
+  unfolding boxFrom boxRow meet
+  row-none e = rw (← first, e)
+
+  row-one :
+      (b d : ℕ)
+      → begins (meet g h) (length h) a c ≡ true
+      → b ≡ lastBelow (like (getD h c 0) g) (length g)
+      → d ≡ lastBelow (like (getD g a 0) h) (length h)
+      → boxFrom g h a ≡ record { a = a; b = b; c = c; d = d } ∷ []
+  unfolding boxFrom boxRow boxAt meet
+  row-one b d e eb ed = rw (← first, e, ed, eb, ← column-like g h c)
+
+  pub row-skipped : (k : ℕ) (o : List ℕ) → begins (meet g h) (length h) a c ≡ false → (k ≡ k + length (boxFrom g h a)) × (o ≡ sets o (k * 4) (bytesOf (boxFrom g h a)))
+  unfolding bytesOf
+  row-skipped k o e = rw (row-none e) (omega arith, refl)
+
+  module _ (e : begins (meet g h) (length h) a c ≡ true) where
+    pub row-length : length (boxFrom g h a) ≡ 1
+    row-length = ap length (row-one _ _ e refl refl)
+
+    pub row-written :
+        (b d k : ℕ) (o after : List ℕ)
+        → b ≡ lastBelow (like (getD h c 0) g) (length g)
+        → d ≡ lastBelow (like (getD g a 0) h) (length h)
+        → after ≡ sets o (k * 4) (a ∷ b ∷ c ∷ d ∷ [])
+        → (k + 1 ≡ k + length (boxFrom g h a)) × (after ≡ sets o (k * 4) (bytesOf (boxFrom g h a)))
+    unfolding bytesOf
+    row-written b d k o after eb ed f = (omega (arith, row-length), rw (row-one b d e eb ed) f)
+
+-- The bytes of boxes.
+bytes-append : (xs ys : List Box) → bytesOf (xs ++ ys) ≡ bytesOf xs ++ bytesOf ys
+unfolding bytesOf
+bytes-append [] ys = refl
+bytes-append (x ∷ xs) ys = ap (λ (r : List ℕ). x .a ∷ x .b ∷ x .c ∷ x .d ∷ r) (bytes-append xs ys)
+
+bytes-length : (xs : List Box) → length (bytesOf xs) ≡ length xs * 4
+unfolding bytesOf
+bytes-length [] = refl
+bytes-length (x ∷ xs) = omega (arith, bytes-length xs)
+
+sets-append : (vs ws l : List ℕ) (i : ℕ) → sets l i (vs ++ ws) ≡ sets (sets l i vs) (i + length vs) ws
+sets-append [] ws l i = rw (add-zero i)
+sets-append (v ∷ vs) ws l i = let z : i + suc (length vs) ≡ suc i + length vs = omega arith in rw z (sets-append vs ws (set l i v) (suc i))
+
+-- The boxes of the rows below a, and one row more.
+module _ (g h : List ℕ) where
+  below-next : (a : ℕ) → boxesBelow g h (a + 1) ≡ boxesBelow g h a ++ boxFrom g h a
+  unfolding boxesBelow boxFrom boxes
+  below-next a = rw add-one
+
+  from-few : (a : ℕ) → length (boxFrom g h a) ≤ 1
+  unfolding boxFrom boxRow
+  from-few a = pick (begins (meet g h) (length h) a (firstBelow (meet g h a) (length h)))
+    where
+      pick : (b : Bool) → length (cond b (boxAt (meet g h) (length g) (length h) a (firstBelow (meet g h a) (length h)) ∷ []) []) ≤ 1
+      pick true = omega arith
+      pick false = omega arith
+
+  below-few : (a : ℕ) → length (boxesBelow g h a) ≤ a
+  unfolding boxesBelow boxes boxFrom
+  below-few zero = omega arith
+  below-few (suc a) = omega (arith, length-append (boxesBelow g h a) (boxFrom g h a), below-few a, from-few a)
+
+  below-grow : (a n : ℕ) → a ≤ n → length (boxesBelow g h a) ≤ length (boxesBelow g h n)
+  unfolding boxesBelow boxes boxFrom
+  below-grow a zero le = let z : a ≡ 0 = omega arith in rw z (omega arith)
+  below-grow a (suc n) le =
+      elim (lt-or-le n a) [
+        | inl u ↦ let z : a ≡ suc n = omega arith in rw z (omega arith)
+        | inr u ↦ omega (arith, below-grow a n u, length-append (boxesBelow g h n) (boxFrom g h n))
+      ]
+
+  pub count-none : 0 ≡ length (boxesBelow g h 0)
+  unfolding boxesBelow boxes
+  count-none = refl
+
+  pub count-small : (a k : ℕ) → k ≡ length (boxesBelow g h a) → k ≤ a
+  count-small a k e = omega (arith, below-few a)
+
+  pub count-room : (a k r : ℕ) → k ≡ length (boxesBelow g h a) → r ≡ length (boxFrom g h a) → k + r ≤ a + 1
+  count-room a k r e f = omega (arith, below-few a, from-few a)
+
+  pub count-next : (a k r : ℕ) → k ≡ length (boxesBelow g h a) → r ≡ length (boxFrom g h a) → k + r ≡ length (boxesBelow g h (a + 1))
+  count-next a k r e f = omega (arith, ap length (below-next a), length-append (boxesBelow g h a) (boxFrom g h a))
+
+  pub count-all : (a n k : ℕ) → k ≡ length (boxesBelow g h a) → a ≡ n → k ≡ length (boxesBelow g h n)
+  count-all a n k e f = e ∙ ap (λ (x : ℕ). length (boxesBelow g h x)) f
+
+-- The boxes of the rows below a are written, k of them.
+pub record Written (g h o₀ : List ℕ) (a k : ℕ) (o : List ℕ) : Type 0 where
+  pub count : k ≡ length (boxesBelow g h a)
+  pub out : o ≡ sets o₀ 0 (bytesOf (boxesBelow g h a))
+
+pub write-start : {g h o : List ℕ} → Written g h o 0 0 o
+unfolding boxesBelow boxes bytesOf
+write-start = record { count = refl; out = refl }
+
+module _ {g h o₀ : List ℕ} {a k : ℕ} {o : List ℕ} (p : Written g h o₀ a k o) where
+  pub write-length : length o ≡ length o₀
+  write-length = ap length (p .out) ∙ length-sets o₀ 0 (bytesOf (boxesBelow g h a))
+
+  pub write-room : a < length g → length (boxesBelow g h (length g)) * 4 ≤ length o₀ → (k ≤ a) × ((k + length (boxFrom g h a)) * 4 ≤ length o)
+  write-room u v = omega (arith, p .count, below-few g h a, count-next g h a k _ (p .count) refl, below-grow g h (a + 1) (length g) (omega arith), write-length)
+
+  pub write-next : (r : ℕ) (after : List ℕ) → r ≡ k + length (boxFrom g h a) → after ≡ sets o (k * 4) (bytesOf (boxFrom g h a)) → Written g h o₀ (a + 1) r after
+  write-next r after e f =
+      let z : k * 4 ≡ 0 + length (bytesOf (boxesBelow g h a)) = omega (arith, bytes-length (boxesBelow g h a), p .count) in
+      record {
+        count = e ∙ count-next g h a k _ (p .count) refl;
+        out = f ∙ rw (p .out, z, below-next g h a, bytes-append) (sym (sets-append (bytesOf (boxesBelow g h a)) (bytesOf (boxFrom g h a)) o₀ 0));
+      }
+
+  pub write-all : a ≡ length g → o ≡ sets o₀ 0 (bytesOf (boxesBelow g h (length g)))
+  write-all e = p .out ∙ ap (λ (n : ℕ). sets o₀ 0 (bytesOf (boxesBelow g h n))) e
+
+-- The answer, by whether the output has room.
+module _ (xs : List Box) (o : List ℕ) (k : ℕ) (e : k ≡ length xs) where
+  pub list-refused : length o < k * 4 → ListedRight xs o (record { answer = Refused OutputShort Nothing; count = 0 }) o
+  unfolding listedOf writtenOf
+  list-refused h =
+      let g : length o < length xs * 4 = omega arith in
+      record { answer = rw (lt-ltb (length o) (length xs * 4) g); output = rw (lt-ltb (length o) (length xs * 4) g) }
+
+  pub list-accepted : (after : List ℕ) → k * 4 ≤ length o → after ≡ sets o 0 (bytesOf xs) → ListedRight xs o (record { answer = Accepted; count = k }) after
+  unfolding listedOf writtenOf
+  list-accepted after h f =
+      let g : length xs * 4 ≤ length o = omega arith in
+      record { answer = rw (le-ltb (length o) (length xs * 4) g, e); output = rw (le-ltb (length o) (length xs * 4) g) f }

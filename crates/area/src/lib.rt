@@ -1,0 +1,225 @@
+// The open areas of a seed. Each node is given the number of its gap once, by a scan of the seed's nodes in its tree; then two nodes fit
+// exactly if their gaps are the same and not 0, so that a pair of nodes costs one comparison. Below, g and h are the gaps of the nodes of Q
+// and of T, by their numbers.
+use answer::Answer;
+use answer::Ground;
+use answer::Place;
+use seed::pair_count;
+use seed::side;
+use tree::Tree;
+ghost use mathlib.Core.Path.{_≡_};
+ghost use mathlib.Core.List.{[], _∷_};
+ghost use Prim.Native.Nat.{_+_, _*_, _≤_, _<_};
+ghost use lib.ListN.{length};
+ghost use lib.Seq.{sets};
+ghost use Rattle.tree.specs.Reading.{leavesOf};
+ghost use Rattle.seed.specs.Pairs.{pairsOf, Held};
+ghost use Rattle.seed.specs.AreaList.{firstBelow, lastBelow, bytesOf};
+ghost use Rattle.seed.specs.AreaList as lists;
+ghost use Rattle.area.specs.Gaps as gaps;
+ghost use Rattle.area.specs.Listed.{ListedRight};
+
+// What is answered, and how many areas there are: 0 if they are refused.
+pub struct Listed {
+    pub answer: Answer,
+    pub count: usize,
+}
+
+// What a node on the left or on the right of another counts.
+fn weight(side: u8) -> usize
+    ensures { λ r. ⌜ r ≡ gaps.weight side ⌝ }
+{
+    if side == 0 {
+        return 256;
+    }
+    1
+}
+
+// The gap of node i among the nodes of a seed, which rise: how many lie left of it, and how many right of it before the nearest above it.
+fn gap(l: &[u8], nodes: &[u8], i: usize) -> usize
+    requires { ⌜ length (now nodes) ≤ 256 ⌝ }
+    ensures { λ r. ⌜ r ≡ gaps.gap (now (l .entry)) (now (nodes .entry)) i ⌝ }
+{
+    let mut gap = 1;
+    let mut k = 0;
+    while k < nodes.len() {
+        let side = side(l, nodes[k] as usize, i);
+        if side == 3 {
+            return 0;
+        }
+        if side == 2 {
+            return gap;
+        }
+        gap += weight(side);
+        k += 1;
+    }
+    0
+}
+
+// The gaps of all nodes of a tree.
+fn gaps_of(l: &[u8], nodes: &[u8]) -> [usize; 256]
+    requires { ⌜ (length (now l) ≤ 256) × (length (now nodes) ≤ 256) ⌝ }
+    ensures { λ r. ⌜ r ≡ gaps.filled (gaps.gap (now (l .entry)) (now (nodes .entry))) (length (now (l .entry))) ⌝ }
+{
+    let mut all: [usize; 256] = [0; 256];
+    let mut i = 0;
+    while i < l.len() {
+        all[i] = gap(l, nodes, i);
+        i += 1;
+    }
+    all
+}
+
+// Whether nodes with these gaps fit.
+fn meets(x: usize, y: usize) -> bool
+    ensures { λ r. ⌜ r ≡ gaps.meets x y ⌝ }
+{
+    if x != y {
+        return false;
+    }
+    x != 0
+}
+
+// The first node that fits one whose gap is x, or how many nodes there are if none does.
+fn first_like(x: usize, g: &[usize]) -> usize
+    ensures { λ r. ⌜ r ≡ firstBelow (gaps.like x (now (g .entry))) (length (now (g .entry))) ⌝ }
+{
+    let mut i = 0;
+    while i < g.len() {
+        if meets(x, g[i]) {
+            return i;
+        }
+        i += 1;
+    }
+    i
+}
+
+// The last node that fits one whose gap is x, or 0 if none does.
+fn last_like(x: usize, g: &[usize]) -> usize
+    ensures { λ r. ⌜ r ≡ lastBelow (gaps.like x (now (g .entry))) (length (now (g .entry))) ⌝ }
+{
+    let mut k = g.len();
+    while 0 < k {
+        k -= 1;
+        if meets(x, g[k]) {
+            return k;
+        }
+    }
+    0
+}
+
+// Whether an area begins at node a of Q, the first node of T that fits it being c.
+fn begins(g: &[usize], h: &[usize], a: usize, c: usize) -> bool
+    requires { ⌜ a < length (now g) ⌝ }
+    ensures { λ r. ⌜ r ≡ lists.begins (gaps.meet (now (g .entry)) (now (h .entry))) (length (now (h .entry))) a c ⌝ }
+{
+    if h.len() <= c {
+        return false;
+    }
+    if a == 0 {
+        return true;
+    }
+    !meets(g[a - 1], h[c])
+}
+
+// How many areas begin at node a of Q: one or none.
+fn count_row(g: &[usize], h: &[usize], a: usize) -> usize
+    requires { ⌜ a < length (now g) ⌝ }
+    ensures { λ r. ⌜ r ≡ length (gaps.boxFrom (now (g .entry)) (now (h .entry)) a) ⌝ }
+{
+    let c = first_like(g[a], h);
+    if begins(g, h, a, c) {
+        return 1;
+    }
+    0
+}
+
+// How many areas there are.
+fn count(g: &[usize], h: &[usize]) -> usize
+    requires { ⌜ length (now g) ≤ 256 ⌝ }
+    ensures { λ r. ⌜ r ≡ length (gaps.boxesBelow (now (g .entry)) (now (h .entry)) (length (now (g .entry)))) ⌝ }
+{
+    let mut count = 0;
+    let mut a = 0;
+    while a < g.len() {
+        count += count_row(g, h, a);
+        a += 1;
+    }
+    count
+}
+
+// The four bytes of an area.
+fn put(out: &mut [u8], at: usize, a: u8, b: u8, c: u8, d: u8)
+    requires { ⌜ at + 4 ≤ length (now out) ⌝ }
+    ensures { λ r. ⌜ now (out .exit) ≡ sets (now (out .entry)) at (a ∷ b ∷ c ∷ d ∷ []) ⌝ }
+{
+    out[at] = a;
+    out[at + 1] = b;
+    out[at + 2] = c;
+    out[at + 3] = d;
+}
+
+// Writes the area that begins at node a of Q, if one does, behind the count areas before it, and answers how many there are then.
+fn write_row(g: &[usize], h: &[usize], out: &mut [u8], a: usize, count: usize) -> usize
+    requires { ⌜ (a < length (now g)) × (length (now g) ≤ 256) × (length (now h) ≤ 256) × (count ≤ a) × ((count + length (gaps.boxFrom (now g) (now h) a)) * 4 ≤ length (now out)) ⌝ }
+    ensures { λ r. ⌜ (r ≡ count + length (gaps.boxFrom (now (g .entry)) (now (h .entry)) a)) × (now (out .exit) ≡ sets (now (out .entry)) (count * 4) (bytesOf (gaps.boxFrom (now (g .entry)) (now (h .entry)) a))) ⌝ }
+{
+    let c = first_like(g[a], h);
+    if !begins(g, h, a, c) {
+        return count;
+    }
+    let b = last_like(h[c], g);
+    let d = last_like(g[a], h);
+    put(out, count * 4, a as u8, b as u8, c as u8, d as u8);
+    count + 1
+}
+
+// Writes all areas by rising a.
+fn write(g: &[usize], h: &[usize], out: &mut [u8])
+    requires { ⌜ (length (now g) ≤ 256) × (length (now h) ≤ 256) × (length (gaps.boxesBelow (now g) (now h) (length (now g))) * 4 ≤ length (now out)) ⌝ }
+    ensures { λ r. ⌜ now (out .exit) ≡ sets (now (out .entry)) 0 (bytesOf (gaps.boxesBelow (now (g .entry)) (now (h .entry)) (length (now (g .entry))))) ⌝ }
+{
+    let mut count = 0;
+    let mut a = 0;
+    while a < g.len() {
+        count = write_row(g, h, out, a, count);
+        a += 1;
+    }
+}
+
+// Lists the areas, if the output has room for them.
+fn list(g: &[usize], h: &[usize], out: &mut [u8]) -> Listed
+    requires { ⌜ (length (now g) ≤ 256) × (length (now h) ≤ 256) ⌝ }
+    ensures { λ r. ⌜ ListedRight (gaps.boxesBelow (now (g .entry)) (now (h .entry)) (length (now (g .entry)))) (now (out .entry)) r (now (out .exit)) ⌝ }
+{
+    let count = count(g, h);
+    if out.len() < count * 4 {
+        return Listed {
+            answer: Answer::Refused {
+                ground: Ground::OutputShort,
+                place: Place::Nothing,
+            },
+            count: 0,
+        };
+    }
+    write(g, h, out);
+    Listed {
+        answer: Answer::Accepted,
+        count,
+    }
+}
+
+// Lists the open areas of a seed by rising a, four bytes each, and answers how many there are.
+pub fn areas(q: Tree, t: Tree, qs: &[u8], ts: &[u8], out: &mut [u8]) -> Listed
+    requires { ⌜ Held q t (pairsOf (now qs) (now ts)) ⌝ }
+    ensures { λ r. ⌜ ListedRight (lists.areas (leavesOf q) (leavesOf t) (pairsOf (now (qs .entry)) (now (ts .entry)))) (now (out .entry)) r (now (out .exit)) ⌝ }
+{
+    let k = pair_count(qs, ts);
+    let n = q.n;
+    let m = t.n;
+    let lq = q.left;
+    let lt = t.left;
+    let g = gaps_of(&lq[..n], &qs[..k]);
+    let h = gaps_of(&lt[..m], &ts[..k]);
+    list(&g[..n], &h[..m], out)
+}
