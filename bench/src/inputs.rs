@@ -797,15 +797,15 @@ fn short_texts(longest: usize) -> Vec<Vec<u8>> {
     inputs
 }
 
-/// Every list of one to three pairs, with a number beyond each tree, on every two structures of up
+/// Every list of one to three pairs, with two numbers beyond each tree, on every two structures of up
 /// to four bytes.
 pub fn small_lists(visit: &mut dyn FnMut(&[u8])) {
     let texts = small_structures(4);
     for q in &texts {
         for t in &texts {
             let (q_count, t_count) = (must_read(q).count, must_read(t).count);
-            let pairs: Vec<Pair> = (0..=q_count)
-                .flat_map(|q| (0..=t_count).map(move |t| (q as u8, t as u8)))
+            let pairs: Vec<Pair> = (0..=q_count + 1)
+                .flat_map(|q| (0..=t_count + 1).map(move |t| (q as u8, t as u8)))
                 .map(|(q, t)| Pair { q, t })
                 .collect();
             lists_of(&pairs, 3, &mut Vec::new(), &mut |list| {
