@@ -7,19 +7,19 @@ use Prim.Native.Nat.{ℕ, zero, suc, _+_, _-_, _*_, _≤_, _<_}
 use native.Mathlib.Nat.{add-zero}
 use native.Mathlib.Numerals.{add-one}
 use native.Mathlib.Omega.{arith}
-use lib.ListN.{length, getD, drop, length-append, length-take, length-drop}
+use lib.ListN.{length, getD, length-append}
 use lib.IntN.{ℤ}
 use Rattle.tree.proofs.Leaves.{lt-or-le}
-use Rattle.seed.specs.Store.{bound, between, pairsAt, Laid}
+use Rattle.seed.specs.Store.{bound, pairsAt, Laid}
 use Rattle.seed.specs.declared.Pair.{Pair}
 use Rattle.seed.specs.declared.Store.{Store}
 use Rattle.deck.specs.Deck.{SeedRecord, PairRecord, DeckRow, chainsOf}
 use Rattle.plain.specs.Plain.{bytes16, bytes32, seedBytes, plainChain, plainPairs, plainSeeds, presentOf}
 use Rattle.deck.specs.Handed.{rowAt}
-use Rattle.plain.specs.Writing.{presentChains, sizeOf, sizeWith, seedPart}
+use Rattle.plain.specs.Writing.{Bounded, Stored, presentChains, sizeOf, sizeWith, seedPart}
 use Rattle.plain.specs.declared.size.Size.{Size}
 use Rattle.deck.proofs.Lists.{map-append, flatten-append, flatten-more}
-use Rattle.plain.proofs.Writing.{pairs-of-length, chain-length}
+use Rattle.plain.proofs.Writing.{count-pairs, chain-length}
 
 module _ {A : Type 0} (present : List Bool) (f : ℕ → A) where
   pub present-next : (i : ℕ) → presentOf present f (i + 1) ≡ presentOf present f i ++ cond (getD present i false) (f i ∷ []) []
@@ -74,19 +74,17 @@ unfolding rowAt
 present-rows s scores present n = present-map present (rowAt s scores) (λ (r : DeckRow). r .pairs) n
 
 module _ (s : Store) (n : ℕ) (h : Laid s n) where
-  part-length : (xs : List ℕ) (a b : ℕ) → b ≤ length xs → length (between xs a b) ≡ b - a
-  unfolding between
-  part-length xs a b l = length-take (b - a) (drop a xs) ∙ rw (length-drop a xs) (omega arith)
+  -- Where a seed of the store lies.
+  pub bounded : (i : ℕ) → i < n → Bounded (s .bounds) i
+  unfolding bound
+  bounded i l = record { few = omega (arith, h .seeds); rise = omega (arith, h .rising i l); within = omega (arith, h .within (i + 1) (omega arith), h .pairs) }
 
-  pub qs-length : (i : ℕ) → i < n → length (between (s .qs) (bound s i) (bound s (i + 1))) ≡ bound s (i + 1) - bound s i
-  qs-length i l = part-length (s .qs) (bound s i) (bound s (i + 1)) (omega (arith, h .within (i + 1) (omega arith), h .room-q, h .pairs))
-
-  pub ts-length : (i : ℕ) → i < n → length (between (s .ts) (bound s i) (bound s (i + 1))) ≡ bound s (i + 1) - bound s i
-  ts-length i l = part-length (s .ts) (bound s i) (bound s (i + 1)) (omega (arith, h .within (i + 1) (omega arith), h .room-t, h .pairs))
+  pub stored : (i : ℕ) → i < n → Stored (s .qs) (s .ts) (s .bounds) i
+  stored i l = record { bounded = bounded i l; long-q = h .room-q; long-t = h .room-t }
 
   pub pairs-at-length : (i : ℕ) → i < n → length (pairsAt s i) ≡ bound s (i + 1) - bound s i
-  unfolding pairsAt
-  pairs-at-length i l = pairs-of-length _ _ (ts-length i l ∙ sym (qs-length i l)) ∙ qs-length i l
+  unfolding pairsAt bound
+  pairs-at-length i l = count-pairs 0 (stored i l)
 
   pub present-pairs-few : (present : List Bool) (i : ℕ) → i ≤ n → length (flatten (presentChains s present i)) ≤ bound s i
   unfolding presentOf flatten

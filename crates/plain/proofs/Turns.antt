@@ -5,7 +5,7 @@ use mathlib.Core.List.{List, _++_, flatten}
 use Prim.Native.Nat.{ℕ, _+_, _-_, _*_, _≤_, _<_}
 use native.Mathlib.Omega.{arith}
 use lib.ListN.{length, getD, length-map}
-use lib.Seq.{sets}
+use lib.Seq.{sets, length-sets}
 use lib.IntN.{ℤ, pos}
 use Rattle.seed.specs.Store.{bound, pairsAt, Laid}
 use Rattle.seed.specs.declared.Pair.{Pair}
@@ -56,22 +56,22 @@ module _ (s : Store) (scores : List ℤ) (present : List Bool) (n : ℕ) (h : La
   pub seeding-few : k ≤ 1025
   seeding-few = omega (arith, w .number, present-pairs-few s n h present i (omega arith), h .within i (omega arith), h .pairs)
 
-  pub seeding-more : getD present i false ≡ true → (next : List ℕ) (z : ℤ) → z ≡ getD scores i (pos 0) → length next ≡ length out → next ≡ sets out at (seedBytes (record { score = z; first = k })) → Seeding s scores present n before next (at + 6) (k + (bound s (i + 1) - bound s i)) (i + 1)
+  pub seeding-more : getD present i false ≡ true → (next : List ℕ) (z : ℤ) (m : ℕ) → z ≡ getD scores i (pos 0) → m ≡ bound s (i + 1) - bound s i → next ≡ sets out at (seedBytes (record { score = z; first = k })) → Seeding s scores present n before next (at + 6) (k + m) (i + 1)
   unfolding rowAt
-  seeding-more e next z f g a =
+  seeding-more e next z m f c a =
       let rows : List DeckRow = presentOf present (rowAt s scores) i in
       let many : length rows ≡ length (presentChains s present i) = sym (length-map rows (λ (r : DeckRow). r .pairs)) ∙ ap length (present-rows s scores present i) in
       let at-is : at ≡ 4 + length (seedPart rows) = omega (arith, w .place, seed-part-length rows) in
       let first-is : k ≡ 1 + length (flatten (chainsOf rows)) = w .number ∙ ap (λ (cs : List (List Pair)). 1 + length (flatten cs)) (sym (present-rows s scores present i)) in
       record {
         few = omega arith;
-        as-long = g ∙ w .as-long;
+        as-long = ap length a ∙ simp length-sets (w .as-long);
         place = omega (arith, w .place, count-more s n h present i l e);
         number = omega (arith, w .number, total-more s n h present i l e);
         wrote =
             put-after before 4 (seedPart rows) _ (w .wrote) a at-is
             ∙ ap (sets before 4)
-            (ap₂ (λ (y : ℤ) (m : ℕ). seedPart rows ++ seedBytes (record { score = y; first = m })) f first-is
+            (ap₂ (λ (y : ℤ) (x : ℕ). seedPart rows ++ seedBytes (record { score = y; first = x })) f first-is
             ∙ sym (seed-part-more rows (rowAt s scores i))
             ∙ ap seedPart (sym (present-more present (rowAt s scores) i e)));
       }
@@ -94,18 +94,18 @@ module _ (s : Store) (present : List Bool) (n start : ℕ) (h : Laid s n) {befor
   pub pairing-few : k + (bound s (i + 1) - bound s i) ≤ 1025
   pairing-few = omega (arith, w .number, present-pairs-few s n h present i (omega arith), h .rising i l, h .within (i + 1) (omega arith), h .pairs)
 
-  pub pairing-more : getD present i false ≡ true → (next : List ℕ) → length next ≡ length out → next ≡ sets out at (pairPart (plainChain k (pairsAt s i))) → Pairing s present n start before next (at + 4 * (bound s (i + 1) - bound s i)) (k + (bound s (i + 1) - bound s i)) (i + 1)
-  pairing-more e next g a =
+  pub pairing-more : getD present i false ≡ true → (next : List ℕ) (m : ℕ) → m ≡ bound s (i + 1) - bound s i → next ≡ sets out at (pairPart (plainChain k (pairsAt s i))) → Pairing s present n start before next (at + 4 * m) (k + m) (i + 1)
+  pairing-more e next m c a =
       let cs : List (List Pair) = presentChains s present i in
       let at-is : at ≡ start + length (pairPart (plainPairs 1 cs)) = omega (arith, w .place, pair-part-length (plainPairs 1 cs), pairs-count 1 cs) in
       record {
         few = omega arith;
-        as-long = g ∙ w .as-long;
+        as-long = ap length a ∙ simp length-sets (w .as-long);
         place = omega (arith, w .place, total-more s n h present i l e);
         number = omega (arith, w .number, total-more s n h present i l e);
         wrote =
             put-after before start (pairPart (plainPairs 1 cs)) _ (w .wrote) a at-is
             ∙ ap (sets before start)
-            (ap (λ (m : ℕ). pairPart (plainPairs 1 cs) ++ pairPart (plainChain m (pairsAt s i))) (w .number)
+            (ap (λ (x : ℕ). pairPart (plainPairs 1 cs) ++ pairPart (plainChain x (pairsAt s i))) (w .number)
             ∙ sym (ap pairPart (ap (plainPairs 1) (present-more present (pairsAt s) i e) ∙ pairs-more 1 cs (pairsAt s i)) ∙ pair-part-append (plainPairs 1 cs) (plainChain (1 + length (flatten cs)) (pairsAt s i))));
       }

@@ -1,6 +1,7 @@
 // The two parts of a deck behind its counts: the seed records, and the pair records.
 use super::records::put_chain;
 use super::records::put_seed;
+use super::size::count_at;
 use seed::Store;
 ghost use mathlib.Core.Path.{_≡_};
 ghost use Prim.Native.Nat.{_+_, _*_, _≤_};
@@ -20,15 +21,12 @@ pub fn put_seeds(out: &mut [u8], store: Store, scores: [i32; 64], present: [bool
     let mut k = 1;
     let mut i = 0;
     while i < seeds {
-        let from = store.bounds[i] as usize;
-        let to = store.bounds[i + 1] as usize;
-        let score = scores[i];
-        let there = present[i];
+        let seed = i;
         i += 1;
-        if there {
-            put_seed(out, at, score, k);
+        if present[seed] {
+            put_seed(out, at, scores[seed], k);
             at += 6;
-            k += to - from;
+            k += count_at(&store.bounds, seed);
         }
     }
 }
@@ -38,20 +36,16 @@ pub fn put_pairs(out: &mut [u8], start: usize, store: Store, present: [bool; 64]
     requires { ⌜ Laid store seeds × (start + 4 * sizeOf (presentChains store present seeds) .pairs ≤ length (now out)) ⌝ }
     ensures { λ r. ⌜ now (out .exit) ≡ sets (now (out .entry)) start (pairPart (plainPairs 1 (presentChains store present seeds))) ⌝ }
 {
-    let qs = store.qs;
-    let ts = store.ts;
     let mut at = start;
     let mut k = 1;
     let mut i = 0;
     while i < seeds {
-        let from = store.bounds[i] as usize;
-        let to = store.bounds[i + 1] as usize;
-        let there = present[i];
+        let seed = i;
         i += 1;
-        if there {
-            put_chain(out, at, k, &qs[from..to], &ts[from..to]);
-            at += 4 * (to - from);
-            k += to - from;
+        if present[seed] {
+            let n = put_chain(out, at, k, &store.qs, &store.ts, &store.bounds, seed);
+            at += 4 * n;
+            k += n;
         }
     }
 }

@@ -1,12 +1,14 @@
 -- `size::size_of` meets its contract: before each turn the present seeds passed are counted. Assumes nothing.
 use mathlib.Core.Path.{_≡_, refl, ap, _∙_}
-use Prim.Native.Nat.{ℕ, _+_, _-_, _≤_}
+use mathlib.Core.Bool.{false}
+use Prim.Native.Nat.{ℕ, _-_, _≤_}
 use native.Mathlib.Omega.{arith}
 use mathlib.Core.List.{flatten}
+use lib.ListN.{getD}
 use Rattle.seed.specs.Store.{bound, pairsAt}
 use Rattle.plain.specs.Plain.{presentOf}
-use Rattle.plain.specs.Writing.{presentChains, sizeOf}
-use Rattle.plain.proofs.Present.{present-few, present-pairs-few, size-next}
+use Rattle.plain.specs.Writing.{presentChains, sizeOf, sizeWith}
+use Rattle.plain.proofs.Present.{present-few, present-pairs-few, bounded, size-next}
 use Rattle.plain.proofs.size.size_of.Statement.{statement}
 use Rattle.plain.proofs.size.size_of.Tie as tie
 
@@ -20,64 +22,40 @@ loop-holds : tie.Need-loop-holds Inv-loop μ-loop
 unfolding presentOf flatten
 loop-holds c = (omega arith, refl)
 
-mul-from : tie.Need-mul-from Inv-loop μ-loop
-unfolding bound
-mul-from c = omega (arith, (c .before .before .pre .seeds))
+array-read-size-with : tie.Need-array-read-size-with Inv-loop μ-loop
+array-read-size-with c = let h = c .before .before .pre in omega (arith, h .seeds)
 
-element-copy-out-from : tie.Need-element-copy-out-from Inv-loop μ-loop
-unfolding bound
-element-copy-out-from c = omega (arith, (c .before .before .pre .seeds))
-
-cast-from : tie.Need-cast-from Inv-loop μ-loop
-unfolding bound
-cast-from c = omega (arith, (c .before .before .before .pre .within) (c .before .before .loop .i) (omega arith), (c .before .before .before .pre .pairs))
-
-add-to : tie.Need-add-to Inv-loop μ-loop
-unfolding bound
-add-to c = omega (arith, (c .before .before .before .pre .seeds))
-
-mul-to : tie.Need-mul-to Inv-loop μ-loop
-unfolding bound
-mul-to c = omega (arith, (c .before .before .before .pre .seeds))
-
-element-copy-out-to : tie.Need-element-copy-out-to Inv-loop μ-loop
-unfolding bound
-element-copy-out-to c = omega (arith, (c .before .before .before .pre .seeds))
-
-cast-to : tie.Need-cast-to Inv-loop μ-loop
-unfolding bound
-cast-to c = omega (arith, (c .before .before .before .before .pre .within) ((c .before .before .before .loop .i) + 1) (omega arith), (c .before .before .before .before .pre .pairs))
-
-array-read-there : tie.Need-array-read-there Inv-loop μ-loop
-unfolding bound
-array-read-there c = omega (arith, (c .before .before .before .before .pre .seeds))
-
-sub-size-with : tie.Need-sub-size-with Inv-loop μ-loop
-unfolding bound
-sub-size-with c = omega (arith, (c .before .before .before .before .pre .rising) (c .before .before .before .loop .i) (c .before .before .loop-test .taken))
+count-at-requires : tie.Need-count-at-requires Inv-loop μ-loop
+count-at-requires c κs = bounded _ _ (c .before .before .before .before .pre) _ (c .before .before .loop-test .taken)
 
 size-with-requires : tie.Need-size-with-requires Inv-loop μ-loop
 unfolding bound
-size-with-requires c κs = let e = (c .before .before .before .loop .inv .1) in
-    rw e (
-      omega (arith, present-few (c .before .before .before .before .args .t2) (pairsAt (c .before .before .before .before .args .t1)) (c .before .before .before .loop .i), (c .before .before .before .before .pre .seeds)),
-      omega (arith, present-pairs-few (c .before .before .before .before .args .t1) (c .before .before .before .before .args .seeds) (c .before .before .before .before .pre) (c .before .before .before .before .args .t2) (c .before .before .before .loop .i) (omega arith), (c .before .before .before .before .pre .rising) (c .before .before .before .loop .i) (c .before .before .loop-test .taken), (c .before .before .before .before .pre .within) ((c .before .before .before .loop .i) + 1) (omega arith), (c .before .before .before .before .pre .pairs)),
+size-with-requires c κs = let start = c .before .before .before .before .before in
+    let loop = c .before .before .before .before .loop in
+    let less = c .before .before .before .loop-test .taken in
+    let b = bounded _ _ (start .pre) _ less in
+    rw (loop .inv .1) (
+      omega (arith, present-few (start .args .t2) (pairsAt (start .args .t1)) (loop .i), b .few),
+      omega (arith, c .count-at .ensures, present-pairs-few _ _ (start .pre) (start .args .t2) (loop .i) (loop .inv .0), b),
     )
 
 add-i : tie.Need-add-i Inv-loop μ-loop
-unfolding bound
-add-i c = omega (arith, (c .before .before .before .before .before .pre .seeds))
+add-i c = let h = c .before .before .before .before .before .before .pre in omega (arith, h .seeds)
 
 loop-less : tie.Need-loop-less Inv-loop μ-loop
-unfolding bound
 loop-less c = omega arith
 
 loop-again : tie.Need-loop-again Inv-loop μ-loop
 unfolding bound
-loop-again c = (omega arith, size-next (c .before .before .before .before .before .args .t1) (c .before .before .before .before .before .args .seeds) (c .before .before .before .before .before .pre) (c .before .before .before .before .before .args .t2) (c .before .before .before .before .loop .i) _ _ (c .before .before .before .loop-test .taken) (c .before .before .before .before .loop .inv .1) (c .size-with .ensures))
+loop-again c = let start = c .before .before .before .before .before .before in
+    let loop = c .before .before .before .before .before .loop in
+    (omega arith, size-next _ _ (start .pre) _ (loop .i) _ _ (c .before .before .before .before .loop-test .taken) (loop .inv .1) (c .size-with .ensures ∙ ap (sizeWith (getD (start .args .t2) (loop .i) false) (loop .size)) (c .before .count-at .ensures)))
 
 returns : tie.Need-returns Inv-loop μ-loop
-returns c = let e : (c .before .loop .i) ≡ (c .before .before .args .seeds) = omega arith in (c .before .loop .inv .1) ∙ ap (λ (j : ℕ). sizeOf (presentChains (c .before .before .args .t1) (c .before .before .args .t2) j)) e
+returns c = let start = c .before .before in
+    let loop = c .before .loop in
+    let e : loop .i ≡ start .args .seeds = omega arith in
+    loop .inv .1 ∙ ap (λ (j : ℕ). sizeOf (presentChains (start .args .t1) (start .args .t2) j)) e
 
 pub size-of-spec : {M : Type 1} → statement M
 size-of-spec =
@@ -86,15 +64,8 @@ size-of-spec =
     Inv-loop
     μ-loop
     loop-holds
-    mul-from
-    element-copy-out-from
-    cast-from
-    add-to
-    mul-to
-    element-copy-out-to
-    cast-to
-    array-read-there
-    sub-size-with
+    array-read-size-with
+    count-at-requires
     size-with-requires
     add-i
     loop-less
