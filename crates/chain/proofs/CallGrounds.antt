@@ -12,8 +12,8 @@ use Rattle.tree.proofs.Trees.{tree-nested}
 use Rattle.seed.specs.declared.Pair.{Pair}
 use Rattle.area.specs.declared.Listed.{Listed}
 use Rattle.best.specs.declared.Best.{Best}
-use Rattle.deck.specs.Handed.{Writes}
-use Rattle.deck.specs.declared.Written.{Written}
+use Rattle.plain.specs.Plain.{Writes}
+use Rattle.plain.specs.declared.Written.{Written}
 use Rattle.chain.specs.State.{State, Outcome, rescore, withdraw, bringBack, add}
 use Rattle.chain.specs.History.{Event, stateOf}
 use Rattle.chain.specs.View.{table, view, Does}

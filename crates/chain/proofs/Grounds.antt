@@ -29,9 +29,8 @@ use Rattle.seed.proofs.Tells.{Tells, tells-le, tells-lt, tells-eq, tells-and, t
 use Rattle.optimum.proofs.Booleans.{T-eq}
 use Rattle.best.specs.Best.{scratchNeeded, bestOf}
 use Rattle.best.specs.declared.Best.{Best}
-use Rattle.deck.specs.Deck.{plainOf}
-use Rattle.deck.specs.Handed.{writtenOf}
-use Rattle.deck.specs.declared.Written.{Written}
+use Rattle.plain.specs.Plain.{plainOf, writtenOf}
+use Rattle.plain.specs.declared.Written.{Written}
 use Rattle.chain.specs.State.{State, decide, given, unless, rowOf, pairCount, givenOut, inRange, countAnswer, rescoreAnswer, rescore, moveAnswer, moveTo, limitAnswer, addAnswer, add}
 use Rattle.chain.specs.Looking.{bestChain, areasOf, listedIf, deckRows}
 use Rattle.chain.specs.Grounds.{Ground, holds, fails, _then_, earlier, later, Decides, GivenOut, InRange, CountSays, RescoreSays, MoveSays, nextNumber, AddSays, ChainSays, AreasSay, WriteSays}

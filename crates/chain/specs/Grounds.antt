@@ -17,7 +17,8 @@ use Rattle.tree.specs.Grounds as tree
 use Rattle.judge.specs.Grounds as seed
 use Rattle.seed.specs.declared.Pair.{Pair}
 use Rattle.best.specs.Best.{scratchNeeded}
-use Rattle.deck.specs.Deck.{DeckRow, plainOf, reading}
+use Rattle.deck.specs.Deck.{DeckRow, reading}
+use Rattle.plain.specs.Plain.{plainOf}
 use Rattle.deck.specs.Handed.{rowsIn}
 use Rattle.deck.specs.Grounds as deck
 use Rattle.chain.specs.State.{State, rowOf, pairCount, changed}

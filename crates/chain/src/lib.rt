@@ -12,7 +12,6 @@ use answer::Ground;
 use answer::Place;
 use area::Listed;
 use best::Best;
-use deck::Written;
 use deck_seeds::judge_seeds;
 use deck_seeds::session_with;
 use limits::given_out;
@@ -20,6 +19,7 @@ use limits::judge_move;
 use limits::judge_rescore;
 use opening::read_both;
 use opening::session_on;
+use plain::Written;
 use seed::Store;
 use seed::pair_count;
 use tree::Tree;
@@ -31,7 +31,7 @@ ghost use Rattle.seed.specs.AreaList.{areas};
 ghost use Rattle.area.specs.Listed.{ListedRight};
 ghost use Rattle.seed.specs.Pairs.{pairsOf};
 ghost use Rattle.seed.specs.Store.{pairsAt};
-ghost use Rattle.deck.specs.Handed.{Writes};
+ghost use Rattle.plain.specs.Plain.{Writes};
 ghost use Rattle.chain.specs.Opening.{start, opening, deckOpening, Opens};
 ghost use Rattle.chain.specs.State.{add, numberGiven, rescore, moveTo, withdraw, bringBack};
 ghost use Rattle.chain.specs.Looking.{Chains, Lists, deckRows};
@@ -263,6 +263,6 @@ impl Session {
         let store = self.store;
         let scores = self.scores;
         let present = self.present;
-        deck::write(store, self.seeds, scores, present, out)
+        plain::write(store, self.seeds, scores, present, out)
     }
 }

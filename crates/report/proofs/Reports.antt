@@ -1,11 +1,12 @@
 -- What a report answers and leaves, in each case of the code. Assumes nothing.
 use mathlib.Core.Path.{_≡_, refl, sym, ap, ap₂, subst, _∙_}
 use mathlib.Core.Bool.{Bool, true, false, cond}
-use mathlib.Core.List.{List, _++_}
-use Prim.Native.Nat.{ℕ, _-_, _≤_}
+use mathlib.Core.List.{List, [], _∷_, _++_, append-assoc}
+use Prim.Native.Nat.{ℕ, suc, _+_, _-_, _≤_, _<_}
+use native.Mathlib.Numerals.{add-one}
 use native.Mathlib.Omega.{arith}
-use lib.ListN.{length, take, drop, replicate, length-append}
-use lib.Seq.{length-take-le}
+use lib.ListN.{length, getD, set, take, drop, replicate, length-append, length-replicate, length-drop}
+use lib.Seq.{length-take-le, take-at, take-suc, drop-cons, set-at}
 use lib.Dec.{ltb}
 use borrow.Author.Tests.{le-ltb, ltb-false}
 use Rattle.answer.specs.Answer.{said}
@@ -21,30 +22,25 @@ use Rattle.chain.specs.View.{view}
 use Rattle.chain.specs.Opening.{deckOpening, Opens}
 use Rattle.chain.specs.Looking.{bestChain, Chains}
 use Rattle.chain.specs.declared.Session.{Session}
-use Rattle.report.specs.Lines.{resultLines, refusalLine}
-use Rattle.report.specs.Input.{textQ, textT, Parted}
-use Rattle.report.specs.Output.{Room, Puts}
+use Rattle.lines.specs.Lines.{resultLines, refusalLine, printed}
+use Rattle.lines.specs.declared.Lines.{Lines}
+use Rattle.report.specs.Input.{textQ, textT, between, Parted}
 use Rattle.report.specs.Report.{outcomeOf, linesBy, linesOf, zeroedBy, scratchLeft, shortage, roomAnswer, reportedBy, scratchBy, outputBy, reportOf, Reports}
 use Rattle.report.specs.declared.Reported.{Reported}
 use Rattle.report.specs.declared.input.Parts.{Parts}
-use Rattle.report.specs.declared.input.Part.{Part}
-use Rattle.report.proofs.Lengths.{length-refusal, length-result}
-use Rattle.report.proofs.Outputs.{puts-first}
+use Rattle.lines.proofs.Lengths.{length-refusal, length-result}
 
--- Two answers are never equal if one accepts and the other refuses.
-pub clash : {A : Type 0} → _≡_ {A = ℕ} 0 1 → A
-clash e = absurd (omega arith)
-
-abbrev held : List ℕ → Part → List ℕ
-held input part = take (part .end - part .start) (drop (part .start) input)
+-- An answer that refuses does not accept.
+pub denies : {a : Answer} {g : Ground} {p : Place} → a ≡ Refused g p → a ≡ Accepted → ⊥
+denies e f = let z : _≡_ {A = ℕ} 0 1 = cc in omega arith
 
 -- The session is opened on the three parts.
-pub opens-input : (input : List ℕ) (parts : Parts) → Parted input parts → (a : Answer) (s : Session) → Opens (deckOpening (take (parts .q .end - parts .q .start) (drop (parts .q .start) input)) (take (parts .t .end - parts .t .start) (drop (parts .t .start) input)) (take (parts .deck .end - parts .deck .start) (drop (parts .deck .start) input))) a s → Opens (outcomeOf input) a s
+pub opens-input : (input q t d : List ℕ) (parts : Parts) → Parted input parts → q ≡ between input (parts .q .start) (parts .q .end) → t ≡ between input (parts .t .start) (parts .t .end) → d ≡ between input (parts .deck .start) (parts .deck .end) → {a : Answer} {s : Session} → Opens (deckOpening q t d) a s → Opens (outcomeOf input) a s
 unfolding outcomeOf
-opens-input input parts w a s o =
-    subst (λ (d : List ℕ). Opens (deckOpening (textQ input) (textT input) d) a s) (w .in-deck .holds)
-    (subst (λ (t : List ℕ). Opens (deckOpening (textQ input) t (held input (parts .deck))) a s) (w .in-t .holds)
-    (subst (λ (q : List ℕ). Opens (deckOpening q (held input (parts .t)) (held input (parts .deck))) a s) (w .in-q .holds) o))
+opens-input input q t d parts w is-q is-t is-d {a} {s} o =
+    subst (λ (x : List ℕ). Opens (deckOpening (textQ input) (textT input) x) a s) (is-d ∙ w .in-deck .holds)
+    (subst (λ (x : List ℕ). Opens (deckOpening (textQ input) x d) a s) (is-t ∙ w .in-t .holds)
+    (subst (λ (x : List ℕ). Opens (deckOpening x t d) a s) (is-q ∙ w .in-q .holds) o))
 
 -- With room enough the answer does not hang on the room.
 room-enough : (s : State) (room : ℕ) → scratchNeeded ≤ room → bestChain s room ≡ bestChain s scratchNeeded
@@ -73,14 +69,6 @@ module _ (input before : List ℕ) (a : Answer) (s : Session) (o : Opens (outcom
       go Accepted f = absurd (denied f)
       go (Refused g p) f = (ap (λ (y : Answer). refusalLine (said y)) f, refl)
 
--- A line that is the lines of the input: it has room where they have, and where it is put they are.
-module _ (input : List ℕ) {line : List ℕ} (is : line ≡ linesOf input) where
-  pub lines-room : {out : List ℕ} → length (linesOf input) ≤ length out → Room out 0 line
-  lines-room fits = record { fits = omega (arith, ap length is) }
-
-  pub lines-put : {out after : List ℕ} {n : ℕ} → Puts out 0 line after n → Puts out 0 (linesOf input) after n
-  lines-put {out} {after} {n} put = subst (λ (l : List ℕ). Puts out 0 l after n) is put
-
 -- A chain has a flag for each of 64 numbers.
 whole : (s : State) → length (bestChain s scratchNeeded .chain) ≡ 64
 unfolding bestChain bestOf
@@ -95,9 +83,39 @@ lines-short input = go (outcomeOf input .answer)
     go Accepted = omega (arith, length-result (bestChain (outcomeOf input .state) scratchNeeded .total) (bestChain (outcomeOf input .state) scratchNeeded .chain) (whole (outcomeOf input .state)))
     go (Refused g p) = omega (arith, length-refusal (said (Refused g p)))
 
+-- The lines of an input in 256 bytes.
+module _ (input : List ℕ) {lines : Lines} (is : lines ≡ printed (linesOf input)) where
+  pub lines-length : lines .length ≡ length (linesOf input)
+  unfolding printed
+  lines-length = ap (λ (x : Lines). x .length) is
+
+  pub lines-room : length (lines .bytes) ≡ 256
+  unfolding printed
+  lines-room =
+      ap (λ (x : Lines). length (x .bytes)) is
+      ∙ length-append (linesOf input) (replicate (256 - length (linesOf input)) 0)
+      ∙ omega (arith, length-replicate {A = ℕ} (256 - length (linesOf input)) 0, lines-short input)
+
+  pub lines-bytes : take (lines .length) (lines .bytes) ≡ linesOf input
+  unfolding printed
+  lines-bytes =
+      ap (λ (x : Lines). take (x .length) (x .bytes)) is
+      ∙ take-at (linesOf input) (replicate (256 - length (linesOf input)) 0) (length (linesOf input)) refl
+
+-- The bytes of them that are put, and one more.
+pub put-long : (bytes out : List ℕ) (i : ℕ) {now : List ℕ} → i ≤ length bytes → i ≤ length out → now ≡ take i bytes ++ drop i out → length now ≡ length out
+put-long bytes out i b o e = ap length e ∙ length-append (take i bytes) (drop i out) ∙ omega (arith, length-take-le i bytes b, length-drop i out)
+
+pub put-more : (bytes out : List ℕ) (i : ℕ) {now : List ℕ} → i < length bytes → i < length out → now ≡ take i bytes ++ drop i out → set now i (getD bytes i 0) ≡ take (i + 1) bytes ++ drop (i + 1) out
+put-more bytes out i b o e =
+    let n : length (take i bytes) ≡ i = length-take-le i bytes (omega arith) in
+    ap (λ (l : List ℕ). set l i (getD bytes i 0)) (e ∙ ap (λ (l : List ℕ). take i bytes ++ l) (drop-cons out i 0 o))
+    ∙ set-at (take i bytes) (getD out i 0) (drop (suc i) out) (getD bytes i 0) i n
+    ∙ rw (add-one i, take-suc bytes i 0 b, append-assoc (take i bytes) (getD bytes i 0 ∷ []) (drop (suc i) out))
+
 -- What lent memory that is long enough is known to be.
 not-given : (b : Bool) (g : Ground) (p : Place) (later : Answer) → given b g p later ≡ Accepted → (b ≡ false) × (later ≡ Accepted)
-not-given true g p later e = clash (cc)
+not-given true g p later e = absurd (denies {a = Accepted} (sym e) refl)
 not-given false g p later e = (refl, e)
 
 module _ (scratch out needed : ℕ) (enough : shortage scratch out needed ≡ Accepted) where
@@ -121,14 +139,13 @@ module _ (input scratch out : List ℕ) (a : Answer) (judged : a ≡ roomAnswer 
         output-left = ap (λ (y : Answer). outputBy y (linesOf input) out) (sym f);
       }
 
-  pub reports : a ≡ Accepted → (left after : List ℕ) (n : ℕ) → Puts out 0 (linesOf input) after n → left ≡ scratchLeft input scratch → Reports input scratch left out after (record { answer = a; length = n })
-  reports ok left after n put f =
+  pub reports : a ≡ Accepted → (left after : List ℕ) (lines : Lines) → lines ≡ printed (linesOf input) → after ≡ take (lines .length) (lines .bytes) ++ drop (lines .length) out → left ≡ scratchLeft input scratch → Reports input scratch left out after (record { answer = a; length = lines .length })
+  reports ok left after lines is put f =
       let yes-room : roomAnswer input scratch out ≡ Accepted = sym judged ∙ ok in
-      let first : (after ≡ linesOf input ++ drop (length (linesOf input)) out) × (n ≡ length (linesOf input)) = puts-first (out-long (length scratch) (length out) (length (linesOf input)) yes-room) put in
       record {
-        answers = ap₂ (λ (x : Answer) (k : ℕ). record { answer = x; length = k }) ok (first .1) ∙ ap (λ (x : Answer). reportedBy x (linesOf input)) (sym yes-room);
+        answers = ap₂ (λ (x : Answer) (k : ℕ). record { answer = x; length = k }) ok (lines-length input is) ∙ ap (λ (x : Answer). reportedBy x (linesOf input)) (sym yes-room);
         scratch-left = f ∙ ap (λ (x : Answer). scratchBy x (scratchLeft input scratch) scratch) (sym yes-room);
-        output-left = first .0 ∙ ap (λ (x : Answer). outputBy x (linesOf input) out) (sym yes-room);
+        output-left = put ∙ ap₂ (λ (l : List ℕ) (n : ℕ). l ++ drop n out) (lines-bytes input is) (lines-length input is) ∙ ap (λ (x : Answer). outputBy x (linesOf input) out) (sym yes-room);
       }
 
 -- The same, by the length alone.

@@ -1,4 +1,2 @@
-pub mod Lines
 pub mod Input
-pub mod Output
 pub mod Report

@@ -13,7 +13,7 @@ use Rattle.best.specs.Best.{scratchNeeded}
 use Rattle.chain.specs.State.{State, Outcome, given}
 use Rattle.chain.specs.Opening.{deckOpening}
 use Rattle.chain.specs.Looking.{bestChain}
-use Rattle.report.specs.Lines.{resultLines, refusalLine}
+use Rattle.lines.specs.Lines.{resultLines, refusalLine}
 use Rattle.report.specs.Input.{textQ, textT, deckBytes}
 use Rattle.report.specs.declared.Reported.{Reported}
 

@@ -1,21 +1,24 @@
 // Standard input's bytes to the printed lines.
 mod input;
-mod lines;
-mod put;
 
 use answer::Answer;
 use answer::Ground;
 use answer::Place;
+use chain::Changed;
 use chain::open_deck;
+use input::bytes_of;
 use input::split;
-use lines::put_refusal;
-use lines::put_result;
+use lines::Lines;
+use lines::refusal;
+use lines::result;
 ghost use mathlib.Core.Path.{_≡_};
+ghost use mathlib.Core.List.{_++_};
 ghost use Prim.Native.Nat.{_≤_};
-ghost use lib.ListN.{length};
+ghost use lib.ListN.{length, take, drop};
 ghost use Rattle.best.specs.Best.{scratchNeeded};
-ghost use Rattle.report.specs.Output.{Puts};
-ghost use Rattle.report.specs.Report.{linesOf, scratchLeft, shortage, reportOf, Reports};
+ghost use Rattle.chain.specs.Opening.{Opens};
+ghost use Rattle.lines.specs.Lines.{printed};
+ghost use Rattle.report.specs.Report.{outcomeOf, linesOf, scratchLeft, shortage, reportOf, Reports};
 
 // What a report answers of the memory that it is lent, and how many bytes it wrote.
 pub struct Reported {
@@ -23,45 +26,53 @@ pub struct Reported {
     pub length: usize,
 }
 
-// Puts the lines of an input to the start of the output: its best chain, or its refusal.
-fn put_lines(input: &[u8], scratch: &mut [u64], out: &mut [u8]) -> usize
-    requires { ⌜ (scratchNeeded ≤ length (now scratch)) × (length (linesOf (now input)) ≤ length (now out)) ⌝ }
-    ensures { λ r. ⌜ Puts (now (out .entry)) 0 (linesOf (now (input .entry))) (now (out .exit)) r × (now (scratch .exit) ≡ scratchLeft (now (input .entry)) (now (scratch .entry))) ⌝ }
+// The session on an input's Q, T and deck.
+fn opened_on(input: &[u8]) -> Changed
+    ensures { λ r. ⌜ Opens (outcomeOf (now (input .entry))) (r .answer) (r .session) ⌝ }
 {
     let parts = split(input);
-    let q = parts.q;
-    let t = parts.t;
-    let deck = parts.deck;
-    let q_start = q.start;
-    let q_end = q.end;
-    let t_start = t.start;
-    let t_end = t.end;
-    let deck_start = deck.start;
-    let deck_end = deck.end;
-    let opened = open_deck(
-        &input[q_start..q_end],
-        &input[t_start..t_end],
-        &input[deck_start..deck_end],
-    );
+    let q = bytes_of(input, parts.q);
+    let t = bytes_of(input, parts.t);
+    let deck = bytes_of(input, parts.deck);
+    open_deck(q, t, deck)
+}
+
+// The lines of an input: those of its best chain, or of its refusal.
+fn lines_of(input: &[u8], scratch: &mut [u64]) -> Lines
+    requires { ⌜ scratchNeeded ≤ length (now scratch) ⌝ }
+    ensures { λ r. ⌜ (r ≡ printed (linesOf (now (input .entry)))) × (now (scratch .exit) ≡ scratchLeft (now (input .entry)) (now (scratch .entry))) ⌝ }
+{
+    let opened = opened_on(input);
     let answer = opened.answer;
     match answer {
         Answer::Accepted => {
             let session = opened.session;
             let best = session.best_chain(scratch);
             let chain = best.chain;
-            put_result(out, best.total, chain)
+            result(best.total, chain)
         }
-        _ => put_refusal(out, answer),
+        _ => refusal(answer),
     }
 }
 
-// How many bytes the lines of an input have, found on memory of its own, so that nothing lent is touched.
+// How many bytes the lines of an input have, found on a scratch of its own, so that nothing lent is touched.
 fn length_needed(input: &[u8]) -> usize
     ensures { λ r. ⌜ r ≡ length (linesOf (now (input .entry))) ⌝ }
 {
     let mut scratch = [0u64; 4096];
-    let mut out = [0u8; 256];
-    put_lines(input, &mut scratch[..], &mut out[..])
+    lines_of(input, &mut scratch[..]).length
+}
+
+// Puts lines to the start of an output that has room for them.
+fn put_lines(out: &mut [u8], lines: Lines)
+    requires { ⌜ (length (lines .bytes) ≡ 256) × (lines .length ≤ 256) × (lines .length ≤ length (now out)) ⌝ }
+    ensures { λ r. ⌜ now (out .exit) ≡ take (lines .length) (lines .bytes) ++ drop (lines .length) (now (out .entry)) ⌝ }
+{
+    let mut i = 0;
+    while i < lines.length {
+        out[i] = lines.bytes[i];
+        i += 1;
+    }
 }
 
 // Grounds 21 and 22. Every report fits 256 bytes, so that only a shorter output is held against the lines.
@@ -93,8 +104,12 @@ pub fn report(input: &[u8], scratch: &mut [u64], out: &mut [u8]) -> Reported
     let answer = judge_room(input, scratch.len(), out.len());
     match answer {
         Answer::Accepted => {
-            let length = put_lines(input, scratch, out);
-            Reported { answer, length }
+            let lines = lines_of(input, scratch);
+            put_lines(out, lines);
+            Reported {
+                answer,
+                length: lines.length,
+            }
         }
         _ => Reported { answer, length: 0 },
     }

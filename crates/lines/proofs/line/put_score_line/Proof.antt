@@ -1,0 +1,35 @@
+-- `line::put_score_line` meets its contract: the score is put and then the line feed. Assumes nothing.
+use mathlib.Core.Path.{refl}
+use Rattle.lines.specs.Lines.{scoreLine}
+use Rattle.lines.proofs.Outputs.{room-first, room-last, puts-both}
+use borrow.Author.Needs.{needs}
+use Rattle.lines.proofs.line.put_score_line.Statement.{statement}
+use Rattle.lines.proofs.line.put_score_line.Tie as tie
+
+slice-aggregate-put-numbered : tie.Need-slice-aggregate-put-numbered
+slice-aggregate-put-numbered c = search needs
+
+put-numbered-requires : tie.Need-put-numbered-requires
+unfolding scoreLine
+put-numbered-requires c κs = room-first _ refl (c .before .before .before .pre)
+
+put-byte-requires : tie.Need-put-byte-requires
+unfolding scoreLine
+put-byte-requires c κs = room-last (c .before .before .before .put-numbered .ensures) refl (c .before .before .before .before .before .before .before .pre)
+
+same-length : tie.Need-same-length
+same-length c = search needs
+
+returns : tie.Need-returns
+unfolding scoreLine
+returns c = puts-both (c .before .before .before .before .before .before .put-numbered .ensures) refl (c .before .before .put-byte .ensures)
+
+pub put-score-line-spec : {M : Type 1} → statement M
+put-score-line-spec =
+    tie.close
+    (tie.spec
+    slice-aggregate-put-numbered
+    put-numbered-requires
+    put-byte-requires
+    same-length
+    returns)

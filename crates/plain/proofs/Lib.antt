@@ -1,0 +1,9 @@
+pub mod Scores
+pub mod Writing
+pub mod Present
+pub mod Turns
+pub mod PlainForm
+pub mod Layouts
+pub mod PlainWalk
+pub mod RoundTrip
+pub mod Examples

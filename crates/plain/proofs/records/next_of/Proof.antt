@@ -1,0 +1,23 @@
+-- `records::next_of` meets its contract. Assumes nothing.
+use borrow.Author.Tests.{lt-ltb, le-ltb}
+use borrow.Author.Needs.{needs}
+use Rattle.plain.proofs.records.next_of.Statement.{statement}
+use Rattle.plain.proofs.records.next_of.Tie as tie
+
+add-if1 : tie.Need-add-if1
+add-if1 c = search needs
+
+add-result : tie.Need-add-result
+add-result c = search needs
+
+add-result-2 : tie.Need-add-result-2
+add-result-2 c = search needs
+
+returns : tie.Need-returns
+returns c = rw (lt-ltb _ _ (c .if1 .taken))
+
+returns-2 : tie.Need-returns-2
+returns-2 c = rw (le-ltb _ _ (c .if1 .left))
+
+pub next-of-spec : {M : Type 1} → statement M
+next-of-spec = tie.close (tie.spec add-if1 add-result add-result-2 returns returns-2)

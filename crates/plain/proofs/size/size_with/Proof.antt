@@ -1,0 +1,19 @@
+-- `size::size_with` meets its contract. Assumes nothing.
+use borrow.Author.Needs.{needs}
+use Rattle.plain.proofs.size.size_with.Statement.{statement}
+use Rattle.plain.proofs.size.size_with.Tie as tie
+
+add-t5 : tie.Need-add-t5
+add-t5 c = search needs
+
+add-t6 : tie.Need-add-t6
+add-t6 c = search needs
+
+returns : tie.Need-returns
+returns c = rw (c .before .before .if1 .taken)
+
+returns-2 : tie.Need-returns-2
+returns-2 c = rw (c .if1 .left)
+
+pub size-with-spec : {M : Type 1} → statement M
+size-with-spec = tie.close (tie.spec add-t5 add-t6 returns returns-2)
