@@ -4,3 +4,4 @@ pub mod GapSteps
 pub mod AreaSteps
 pub mod AreaParts
 mod AreaExamples
+pub mod AreaStretches

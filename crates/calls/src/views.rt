@@ -182,8 +182,8 @@ pub fn stretch(s: &[u8], at: usize) -> Text {
     let text = structure(s, at);
     let a = next(s, at);
     let b = next(s, a);
-    let answer = tree::stretch_check(text, number(s, a), number(s, b));
-    let spelled = tree::stretch(text, number(s, a), number(s, b));
+    let answer = stretch::check(text, number(s, a), number(s, b));
+    let spelled = stretch::part(text, number(s, a), number(s, b));
     let said = with_answer(blank(), answer);
     if spelled.len() == 0 {
         return said;

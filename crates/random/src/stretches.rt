@@ -16,9 +16,9 @@ use words::answers::kind_of;
 use words::plain::part;
 
 fn stretch_right(s: &[u8], r: Reader, a: usize, b: usize) -> bool {
-    let answer = tree::stretch_check(s, a, b);
+    let answer = stretch::check(s, a, b);
     let ground = ground_of(answer);
-    let spelled = tree::stretch(s, a, b);
+    let spelled = stretch::part(s, a, b);
     let nodes = r.nodes;
     if is_stretch(nodes, a, b) {
         if ground != 0 {

@@ -19,5 +19,4 @@ pub mod Convex
 pub mod Boxes
 pub mod BoxList
 pub mod Areas
-pub mod AreaStretches
 pub mod Examples

@@ -5,16 +5,15 @@ use Prim.Native.Nat.{ℕ}
 use lib.ListN.{replicate}
 use Rattle.answer.specs.Answer.{Said, said}
 use Rattle.answer.specs.Answer.Said.{accepted, refused}
-use Rattle.answer.specs.declared.Place.the-variants.{ByteInQ, Nothing}
+use Rattle.answer.specs.declared.Place.the-variants.{ByteInQ}
 use Rattle.tree.specs.Run.{lefts}
 use Rattle.tree.specs.Reading.{Reading, badLength, reading, answerOf}
-use Rattle.tree.specs.Stretch.{stretchIn, checkOf, partOf}
 
 -- `(.(.)).` and `(.)(.)`.
-abbrev A : List ℕ
+abbrev pub A : List ℕ
 A = 40 ∷ 46 ∷ 40 ∷ 46 ∷ 41 ∷ 41 ∷ 46 ∷ []
 
-abbrev B : List ℕ
+abbrev pub B : List ℕ
 B = 40 ∷ 46 ∷ 41 ∷ 40 ∷ 46 ∷ 41 ∷ []
 
 abbrev leftsOf : Reading → List ℕ
@@ -61,12 +60,3 @@ rows =
 texts : map (λ (x : Row). said (answerOf (reading (x .text)))) rows ≡ map (λ (x : Row). x .says) rows
 unfolding row rows reading badLength
 texts = refl
-
--- The stretches of document 01's areas, and runs that are none: across siblings of two nodes, turned round, with the added root, past it.
-parts : (partOf A 0 2 ≡ 46 ∷ 40 ∷ 46 ∷ 41 ∷ []) × (partOf A 4 4 ≡ 46 ∷ []) × (partOf B 0 0 ≡ 46 ∷ []) × (partOf B 2 3 ≡ 40 ∷ 46 ∷ 41 ∷ []) × (partOf A 0 4 ≡ A)
-unfolding partOf reading badLength stretchIn
-parts = (refl, refl, refl, refl, refl)
-
-none : (said (checkOf A 0 1) ≡ refused 15 Nothing) × (said (checkOf A 2 1) ≡ refused 15 Nothing) × (said (checkOf A 4 5) ≡ refused 15 Nothing) × (said (checkOf A 6 6) ≡ refused 15 Nothing) × (said (checkOf (40 ∷ []) 0 0) ≡ refused 4 (ByteInQ 0))
-unfolding checkOf reading badLength stretchIn
-none = (refl, refl, refl, refl, refl)

@@ -8,12 +8,7 @@ pub mod Descents
 pub mod Spelling
 pub mod Partners
 pub mod Texts
-pub mod Scans
-pub mod Neighbours
-pub mod Stretches
-pub mod Searches
-mod Examples
+pub mod Examples
 pub mod Grounds
 pub mod Trees
 pub mod Nodes
-pub mod Whole

@@ -2,9 +2,8 @@
 use mathlib.Core.Path.{_≡_, refl, sym, ap, ap₂, _∙_}
 use mathlib.Core.List.{List, [], _∷_, _++_, append-assoc, append-nil}
 use Prim.Native.Nat.{ℕ}
-use Rattle.tree.specs.Run.{Run, spell}
+use Rattle.tree.specs.Run.{Run, spell, join}
 use Rattle.tree.specs.Run.Run.{end, dot, pair}
-use Rattle.tree.specs.Stretch.{join}
 use Rattle.tree.specs.Reading.{meaningOf, Meant, Runs, first, onto, runs}
 use Rattle.tree.specs.Reading.Runs.{last, more}
 use Rattle.tree.specs.declared.character.Meaning.{Meaning}

@@ -4,5 +4,3 @@ pub mod Nested
 pub mod Reading
 pub mod Building
 pub mod Grounds
-pub mod Stretch
-pub mod Scan

@@ -14,6 +14,12 @@ spell end = []
 spell (dot c r) = c ∷ spell r
 spell (pair o i c r) = o ∷ (spell i ++ c ∷ spell r)
 
+-- A run in front of another.
+abbrev pub join : Run → Run → Run
+join end q = q
+join (dot c r) q = dot c (join r q)
+join (pair o i c r) q = pair o i c (join r q)
+
 -- How many nodes a run has: one for each dot and each pair.
 abbrev pub size : Run → ℕ
 size end = 0

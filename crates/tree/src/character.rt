@@ -52,7 +52,7 @@ fn all_known(text: &[u8]) -> bool
 }
 
 // Where the first refused byte stands, or the text's length. Only a text that has one is searched.
-pub fn first_refused(text: &[u8]) -> usize
+pub(crate) fn first_refused(text: &[u8]) -> usize
     ensures { λ r. ⌜ r ≡ firstRefused (now (text .entry)) ⌝ }
 {
     if all_known(text) {

@@ -1,7 +1,6 @@
-// Structures in dot-bracket form: a text read into a tree, and the part of a text that spells a run of nodes.
-mod character;
+// Structures in dot-bracket form: what a byte means, and a text read into a tree.
+pub mod character;
 mod run;
-mod search;
 
 use answer::Answer;
 use answer::Ground;
@@ -10,10 +9,8 @@ use character::Meaning;
 use character::first_refused;
 use character::meaning_of;
 use run::read_run;
-use search::locate;
 ghost use mathlib.Core.Path.{_≡_};
 ghost use Rattle.tree.specs.Reading.{Reading, badLength, reading, readOf, treeOf, single};
-ghost use Rattle.tree.specs.Stretch.{partOf, checkOf};
 
 // The nodes of a structure, numbered from 0 in postfix order: how many, and the leftmost leaf of each.
 pub struct Tree {
@@ -83,21 +80,4 @@ pub fn read(text: &[u8]) -> TreeRead
         Meaning::Closing => refused(Ground::ClosesNothing, at),
         _ => refused(Ground::NeverClosed, at),
     }
-}
-
-// The part of the text that spells the nodes a to b, or the empty part at its start where `stretch_check` refuses.
-pub fn stretch(text: &[u8], a: usize, b: usize) -> &[u8]
-    ensures { λ r. ⌜ now r ≡ partOf (now (text .entry)) a b ⌝ }
-{
-    let part = locate(text, a, b);
-    let from = part.from;
-    let to = part.to;
-    &text[from..to]
-}
-
-// Whether the nodes a to b of the text are a stretch.
-pub fn stretch_check(text: &[u8], a: usize, b: usize) -> Answer
-    ensures { λ r. ⌜ r ≡ checkOf (now (text .entry)) a b ⌝ }
-{
-    locate(text, a, b).answer
 }

@@ -5,19 +5,19 @@ use Prim.Native.Nat.{ℕ, suc, _+_, _<_}
 use native.Mathlib.Omega.{arith}
 use mathlib.Core.List.{List, [], _∷_, _++_, append-assoc, append-nil, head-eq-of-cons-eq, tail-eq-of-cons-eq}
 use lib.ListN.{length, length-append}
-use Rattle.tree.specs.Run.{Run, spell, size}
+use Rattle.tree.specs.Run.{Run, spell, size, join}
 use Rattle.tree.specs.Run.Run.{end, dot, pair}
 use Rattle.tree.specs.Reading.{meaningOf, Meant, Runs, runs}
 use Rattle.tree.specs.Reading.Runs.{last, more}
-use Rattle.tree.specs.Scan.{endsOf}
-use Rattle.tree.specs.Stretch.{join, Siblings}
-use Rattle.tree.specs.Stretch.Siblings.{here, past-dot, into, past-pair}
+use Rattle.stretch.specs.Scan.{endsOf}
+use Rattle.stretch.specs.Stretch.{Siblings}
+use Rattle.stretch.specs.Stretch.Siblings.{here, past-dot, into, past-pair}
 use Rattle.tree.specs.declared.character.Meaning.the-variants.{Closing}
 use Rattle.tree.proofs.Meanings.{clash}
 use Rattle.tree.proofs.Splits.{size-spell}
 use Rattle.tree.proofs.Spelling.{read-back, read-spell, before}
 use Rattle.tree.proofs.Partners.{placed, placed-closes, placed-closed, not-closed}
-use Rattle.tree.proofs.Scans.{ends, weight-append, ends-spell}
+use Rattle.stretch.proofs.Scans.{ends, weight-append, ends-spell}
 
 spell-join : (y z : Run) → spell (join y z) ≡ spell y ++ spell z
 spell-join end z = refl

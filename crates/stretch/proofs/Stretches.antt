@@ -8,13 +8,13 @@ use native.Mathlib.Nat.{eq-zero-or-pos}
 use lib.ListN.{length}
 use lib.Dec.{eqb, ltb, leb}
 use borrow.Author.Tests.{eq-eqb, ne-eqb, lt-ltb, le-ltb, le-leb, lt-leb}
-use Rattle.tree.specs.Run.{Run, spell, size}
+use Rattle.tree.specs.Run.{Run, spell, size, join}
 use Rattle.tree.specs.Run.Run.{end, dot, pair}
-use Rattle.tree.specs.Stretch.{join, Siblings, Stretch, Found, pickFound, past, withDot, withPair, leading, nodesFrom, stretchIn}
-use Rattle.tree.specs.Stretch.Siblings.{here, past-dot, into, past-pair}
-use Rattle.tree.specs.Stretch.Found.{at, nowhere}
+use Rattle.stretch.specs.Stretch.{Siblings, Stretch, Found, pickFound, past, withDot, withPair, leading, nodesFrom, stretchIn}
+use Rattle.stretch.specs.Stretch.Siblings.{here, past-dot, into, past-pair}
+use Rattle.stretch.specs.Stretch.Found.{at, nowhere}
 use Rattle.tree.proofs.Meanings.{clash}
 use Rattle.tree.proofs.Leaves.{lt-or-le}
 
 -- A search takes the one or the other way, by its test.
 yes : {t : Bool} (x y : Found) → t ≡ true → pickFound t x y ≡ x

@@ -1,12 +1,12 @@
--- `tree::search::search` meets its contract: one law for each way out. Assumes nothing.
+-- `stretch::search::search` meets its contract: one law for each way out. Assumes nothing.
 use mathlib.Core.Path.{refl}
 use native.Mathlib.Omega.{arith}
 use Rattle.tree.proofs.Meanings.{clash}
-use Rattle.tree.proofs.Scans.{scan-inside, scan-counts}
-use Rattle.tree.proofs.Searches.{search-disordered, search-few, search-wide, search-unread, search-other, search-found}
+use Rattle.stretch.proofs.Scans.{scan-inside, scan-counts}
+use Rattle.stretch.proofs.Searches.{search-disordered, search-few, search-wide, search-unread, search-other, search-found}
 use borrow.Author.Needs.{needs}
-use Rattle.tree.proofs.search.search.Statement.{statement}
-use Rattle.tree.proofs.search.search.Tie as tie
+use Rattle.stretch.proofs.search.search.Statement.{statement}
+use Rattle.stretch.proofs.search.search.Tie as tie
 
 nowhere-requires : tie.Need-nowhere-requires
 nowhere-requires c κs = search needs

@@ -1,10 +1,10 @@
--- `tree::search::scan_to` meets its contract: what is passed and what is left make up the whole scan. Assumes nothing.
+-- `stretch::search::scan_to` meets its contract: what is passed and what is left make up the whole scan. Assumes nothing.
 use Prim.Native.Nat.{_-_}
 use native.Mathlib.Omega.{arith}
 use lib.ListN.{length}
-use Rattle.tree.proofs.Scans.{Scanning, scan-starts, scan-stops, scan-ends, scan-goes-on}
-use Rattle.tree.proofs.search.scan_to.Statement.{statement}
-use Rattle.tree.proofs.search.scan_to.Tie as tie
+use Rattle.stretch.proofs.Scans.{Scanning, scan-starts, scan-stops, scan-ends, scan-goes-on}
+use Rattle.stretch.proofs.search.scan_to.Statement.{statement}
+use Rattle.stretch.proofs.search.scan_to.Tie as tie
 
 abbrev Inv-loop : tie.InvT-loop
 Inv-loop text a b c₀ k₀ c k = Scanning text a b c k

@@ -7,24 +7,24 @@ use lib.ListN.{length, take, drop, length-append}
 use lib.Seq.{take-append-seam, drop-append-seam}
 use Rattle.answer.specs.declared.Answer.{Answer}
 use Rattle.answer.specs.declared.Answer.the-variants.{Accepted}
-use Rattle.tree.specs.Run.{Run, spell, size}
+use Rattle.tree.specs.Run.{Run, spell, size, join}
 use Rattle.tree.specs.Run.Run.{end, dot, pair}
 use Rattle.tree.specs.Reading.{Meant, Reading, reading, readOf}
 use Rattle.tree.specs.Reading.Reading.{accepted, refused}
-use Rattle.tree.specs.Stretch.{join, Siblings, Stretch, Found, stretchIn, locatedBy, located, locatedIn, spelled, part, partOf}
-use Rattle.tree.specs.Stretch.Siblings.{here, past-dot, into, past-pair}
-use Rattle.tree.specs.Stretch.Found.{at, nowhere}
-use Rattle.tree.specs.Scan.{unmoved, scanTo, LocatedRight}
-use Rattle.tree.specs.declared.search.Scan.{Scan}
-use Rattle.tree.specs.declared.search.Located.{Located}
+use Rattle.stretch.specs.Stretch.{Siblings, Stretch, Found, stretchIn, locatedBy, located, locatedIn, spelled, part, partOf}
+use Rattle.stretch.specs.Stretch.Siblings.{here, past-dot, into, past-pair}
+use Rattle.stretch.specs.Stretch.Found.{at, nowhere}
+use Rattle.stretch.specs.Scan.{unmoved, scanTo, LocatedRight}
+use Rattle.stretch.specs.declared.search.Scan.{Scan}
+use Rattle.stretch.specs.declared.search.Located.{Located}
 use Rattle.tree.specs.declared.TreeRead.{TreeRead}
 use Rattle.tree.proofs.Meanings.{clash}
 use Rattle.tree.proofs.Lengths.{length-few, length-fits}
 use Rattle.tree.proofs.Splits.{size-spell}
 use Rattle.tree.proofs.Grounds.{accepted-spell, read-accepts}
-use Rattle.tree.proofs.Scans.{Spelled, scan-inside, scan-at, scan-nodes, scan-width, scan-part, spells}
-use Rattle.tree.proofs.Neighbours.{stands, neighbours}
-use Rattle.tree.proofs.Stretches.{stretches, no-stretch}
+use Rattle.stretch.proofs.Scans.{Spelled, scan-inside, scan-at, scan-nodes, scan-width, scan-part, spells}
+use Rattle.stretch.proofs.Neighbours.{stands, neighbours}
+use Rattle.stretch.proofs.Stretches.{stretches, no-stretch}
 
 -- The items of a run whose bytes mean what they stand for do so too.
 meant-join : (y z : Run) → Meant (join y z) → Meant y

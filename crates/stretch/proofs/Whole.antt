@@ -6,16 +6,16 @@ use Prim.Native.Nat.{ℕ, zero, suc, _+_, _-_, _≤_, _<_}
 use native.Mathlib.Omega.{arith}
 use native.Mathlib.Nat.{eq-zero-or-pos}
 use lib.ListN.{length}
-use Rattle.tree.specs.Run.{Run, spell, size, lefts}
+use Rattle.tree.specs.Run.{Run, spell, size, lefts, join}
 use Rattle.tree.specs.Run.Run.{end, dot, pair}
 use Rattle.tree.specs.Nested.{leaf}
 use Rattle.tree.specs.Node.{Item, itemNumber}
 use Rattle.tree.specs.Node.Item.{the-dot, the-pair, inside, past-dot, past-pair}
-use Rattle.tree.specs.Stretch.{join, Siblings, Stretch}
-use Rattle.tree.specs.Stretch.Siblings.{here, into, past-dot as after-dot, past-pair as after-pair}
+use Rattle.stretch.specs.Stretch.{Siblings, Stretch}
+use Rattle.stretch.specs.Stretch.Siblings.{here, into, past-dot as after-dot, past-pair as after-pair}
 use Rattle.tree.proofs.Leaves.{lt-or-le, root-left}
-use Rattle.tree.proofs.Stretches.{inside as within}
+use Rattle.stretch.proofs.Stretches.{inside as within}
 use Rattle.tree.proofs.Nodes.{left, item-at, item-below, leaf-item}
 
 -- What the leftmost leaves say of the nodes a to b, none of them the added root.
 pub record Whole (r : Run) (a b : ℕ) : Type 0 where

@@ -1,8 +1,8 @@
--- `tree::stretch` meets its contract: the bytes located spell the stretch. Assumes nothing.
-use Rattle.tree.proofs.Searches.{part-of}
+-- `stretch::part` meets its contract: the bytes located spell the stretch. Assumes nothing.
+use Rattle.stretch.proofs.Searches.{part-of}
 use borrow.Author.Needs.{needs}
-use Rattle.tree.proofs.stretch.Statement.{statement}
-use Rattle.tree.proofs.stretch.Tie as tie
+use Rattle.stretch.proofs.part.Statement.{statement}
+use Rattle.stretch.proofs.part.Tie as tie
 
 locate-requires : tie.Need-locate-requires
 locate-requires c κs = search needs
@@ -19,6 +19,6 @@ part-result-end c = part-of _ _ _ _ (c .locate .ensures) .inside
 returns : tie.Need-returns
 returns c = part-of _ _ _ _ (c .before .locate .ensures) .is
 
-pub stretch-spec : {M : Type 1} → statement M
-stretch-spec =
+pub part-spec : {M : Type 1} → statement M
+part-spec =
     tie.close (tie.spec locate-requires sub-result part-result-start part-result-end returns)

@@ -10,17 +10,11 @@ use Rattle.answer.specs.declared.Ground.the-variants.{OutsideTree}
 use Rattle.answer.specs.declared.Place.the-variants.{Nothing}
 use Rattle.answer.specs.declared.Answer.{Answer}
 use Rattle.answer.specs.declared.Answer.the-variants.{Accepted, Refused}
-use Rattle.tree.specs.Run.{Run, spell, size}
+use Rattle.tree.specs.Run.{Run, spell, size, join}
 use Rattle.tree.specs.Run.Run.{end, dot, pair}
 use Rattle.tree.specs.Reading.{Reading, reading, answerOf}
 use Rattle.tree.specs.Reading.Reading.{accepted, refused}
-use Rattle.tree.specs.declared.search.Located.{Located}
-
--- A run in front of another.
-abbrev pub join : Run → Run → Run
-join end q = q
-join (dot c r) q = dot c (join r q)
-join (pair o i c r) q = pair o i c (join r q)
+use Rattle.stretch.specs.declared.search.Located.{Located}
 
 -- The items of y are neighbours in the run r, or in the run inside a pair of it. Their first node is a, counted from r's first node, and
 -- k bytes of r's text stand before them.

@@ -1,10 +1,10 @@
--- `tree::search::locate` meets its contract. Assumes nothing.
+-- `stretch::search::locate` meets its contract. Assumes nothing.
 use mathlib.Core.Path.{refl}
 use Rattle.tree.proofs.Meanings.{clash}
-use Rattle.tree.proofs.Searches.{short-read, locate-accepted, locate-refused}
+use Rattle.stretch.proofs.Searches.{short-read, locate-accepted, locate-refused}
 use borrow.Author.Needs.{needs}
-use Rattle.tree.proofs.search.locate.Statement.{statement}
-use Rattle.tree.proofs.search.locate.Tie as tie
+use Rattle.stretch.proofs.search.locate.Statement.{statement}
+use Rattle.stretch.proofs.search.locate.Tie as tie
 
 read-requires : tie.Need-read-requires
 read-requires c κs = search needs

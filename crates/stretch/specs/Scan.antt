@@ -4,14 +4,14 @@ use mathlib.Core.Bool.{Bool, true, false, cond}
 use Prim.Native.Nat.{ℕ, _+_}
 use mathlib.Core.List.{List, [], _∷_}
 use lib.Dec.{leb, ltb}
 use Rattle.tree.specs.Run.{Run}
 use Rattle.tree.specs.Reading.{meaningOf, reading}
 use Rattle.tree.specs.Reading.Reading.{accepted}
-use Rattle.tree.specs.Stretch.{stretchIn, locatedBy}
+use Rattle.stretch.specs.Stretch.{stretchIn, locatedBy}
 use Rattle.tree.specs.declared.character.Meaning.{Meaning}
 use Rattle.tree.specs.declared.character.Meaning.the-variants.{Unpaired, Opening, Closing, Refused}
-use Rattle.tree.specs.declared.search.Scan.{Scan}
-use Rattle.tree.specs.declared.search.Located.{Located}
+use Rattle.stretch.specs.declared.search.Scan.{Scan}
+use Rattle.stretch.specs.declared.search.Located.{Located}
 
 -- The nodes that a byte ends, and how many bytes such a node has of its own.
 abbrev pub endsOf : Meaning → ℕ

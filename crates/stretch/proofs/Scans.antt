@@ -10,14 +10,14 @@ use lib.ListN.{length, getD, take, drop, length-append, take-append-drop, drop-o
 use lib.Seq.{take-at, take-append-seam, drop-append-seam, drop-cons, take-add}
 use lib.Dec.{leb}
 use borrow.Author.Tests.{le-leb, lt-leb, lt-ltb, le-ltb}
 use Rattle.tree.specs.Run.{Run, spell, size}
 use Rattle.tree.specs.Run.Run.{end, dot, pair}
 use Rattle.tree.specs.Reading.{meaningOf, Meant}
-use Rattle.tree.specs.Scan.{endsOf, bytesOf, counted, pickScan, unmoved, scanTo}
+use Rattle.stretch.specs.Scan.{endsOf, bytesOf, counted, pickScan, unmoved, scanTo}
 use Rattle.tree.specs.declared.character.Meaning.{Meaning}
 use Rattle.tree.specs.declared.character.Meaning.the-variants.{Unpaired, Opening, Closing, Refused}
-use Rattle.tree.specs.declared.search.Scan.{Scan}
+use Rattle.stretch.specs.declared.search.Scan.{Scan}
 use Rattle.tree.proofs.Leaves.{lt-or-le}
 
 -- What the bytes of a text weigh together, each by its meaning.
 abbrev pub weight : (Meaning → ℕ) → List ℕ → ℕ

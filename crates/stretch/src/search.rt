@@ -1,15 +1,15 @@
 // Finding the bytes of a text that spell a run of nodes.
-use super::character::Meaning;
-use super::character::meaning_of;
-use super::read;
 use answer::Answer;
 use answer::Ground;
 use answer::Place;
+use tree::character::Meaning;
+use tree::character::meaning_of;
+use tree::read;
 ghost use mathlib.Core.Path.{_≡_};
 ghost use Prim.Native.Nat.{_≤_, _<_};
 ghost use lib.ListN.{length};
-ghost use Rattle.tree.specs.Scan.{endsOf, bytesOf, counted, unmoved, scanTo, LocatedRight};
-ghost use Rattle.tree.specs.Stretch.{Found, locatedBy, locatedIn};
+ghost use Rattle.stretch.specs.Scan.{endsOf, bytesOf, counted, unmoved, scanTo, LocatedRight};
+ghost use Rattle.stretch.specs.Stretch.{Found, locatedBy, locatedIn};
 
 // How far a scan has come: the byte it stands at, the nodes that end before it, and the bytes of those from node a on.
 pub struct Scan {

@@ -1,9 +1,9 @@
--- `tree::search::count_byte` meets its contract. Assumes nothing.
+-- `stretch::search::count_byte` meets its contract. Assumes nothing.
 use native.Mathlib.Omega.{arith}
-use Rattle.tree.proofs.Scans.{one-end, two-bytes, count-low, count-high}
+use Rattle.stretch.proofs.Scans.{one-end, two-bytes, count-low, count-high}
 use borrow.Author.Needs.{needs}
-use Rattle.tree.proofs.search.count_byte.Statement.{statement}
-use Rattle.tree.proofs.search.count_byte.Tie as tie
+use Rattle.stretch.proofs.search.count_byte.Statement.{statement}
+use Rattle.stretch.proofs.search.count_byte.Tie as tie
 
 meaning-of-requires : tie.Need-meaning-of-requires
 meaning-of-requires c κs = search needs

@@ -1,0 +1,6 @@
+pub mod Scans
+pub mod Neighbours
+pub mod Stretches
+pub mod Searches
+mod Examples
+pub mod Whole
