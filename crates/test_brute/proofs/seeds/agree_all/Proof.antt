@@ -1,0 +1,17 @@
+-- `test_brute::seeds::agree_all` is safe and ends: its loop counts. The measure is the turns left. Assumes nothing.
+use borrow.Author.Needs.{needs}
+use Prim.Native.Nat.{_-_}
+use Rattle.test_brute.proofs.seeds.agree_all.Statement.{statement}
+use Rattle.test_brute.proofs.seeds.agree_all.Tie as tie
+
+abbrev Inv-loop : tie.InvT-loop
+Inv-loop trees p u q t k₀ k = Unit
+
+abbrev μ-loop : tie.MeasureT-loop
+μ-loop trees p u q t k₀ k = 4 - k
+
+pub agree-all-spec : {M : Type 1} → statement M
+agree-all-spec =
+    tie.close
+    (tie.spec Inv-loop μ-loop (λ c. search needs) (λ c κs. search needs) (λ c κs. search needs) (λ c κs. search needs)
+    (λ c. search needs) (λ c. search needs) (λ c. search needs) (λ c. search needs) (λ c. search needs))

@@ -1,0 +1,52 @@
+// The groups of random cases.
+use test_random::stretches::stretches;
+use test_random::tally::Count;
+use test_random::tally::print_count;
+use test_random::tally::print_seen;
+use test_random::texts::texts;
+use test_sessions::sessions;
+use test_words::Text;
+use test_words::blank;
+use test_words::line::next;
+use test_words::line::number;
+use test_words::line::word;
+use test_words::with_bytes;
+use test_words::with_number;
+
+fn wrong(c: Count) -> Text {
+    with_bytes(with_number(blank(), c.wrong), b" wrong")
+}
+
+fn random_texts(cases: usize, seed: usize) -> Text {
+    let c = texts(cases, seed as u64);
+    print_count(b"random texts: ", c);
+    wrong(c)
+}
+
+fn random_stretches(cases: usize, seed: usize) -> Text {
+    let c = stretches(cases, seed as u64);
+    print_count(b"random stretches: ", c);
+    wrong(c)
+}
+
+fn random_sessions(cases: usize, seed: usize) -> Text {
+    let c = sessions(cases, seed as u64);
+    let count = c.count;
+    let seen = c.seen;
+    print_count(b"random sessions: ", count);
+    print_seen(seen);
+    wrong(count)
+}
+
+// random GROUP CASES SEED
+pub fn random(s: &[u8], at: usize) -> Text {
+    let cases = next(s, at);
+    let seed = next(s, cases);
+    if check::same(word(s, at), b"texts") {
+        return random_texts(number(s, cases), number(s, seed));
+    }
+    if check::same(word(s, at), b"stretches") {
+        return random_stretches(number(s, cases), number(s, seed));
+    }
+    random_sessions(number(s, cases), number(s, seed))
+}

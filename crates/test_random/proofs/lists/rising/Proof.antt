@@ -1,0 +1,19 @@
+-- `test_random::lists::rising` is safe and ends: its loop counts. The measure is the turns left. Assumes nothing.
+use borrow.Author.Needs.{needs}
+use Prim.Native.Nat.{_-_}
+use Rattle.test_random.proofs.lists.rising.Statement.{statement}
+use Rattle.test_random.proofs.lists.rising.Tie as tie
+
+abbrev Inv-loop : tie.InvT-loop
+Inv-loop state₀ q t count l₀ i₀ j₀ counter₀ state l i j counter = Unit
+
+abbrev μ-loop : tie.MeasureT-loop
+μ-loop state₀ q t count l₀ i₀ j₀ counter₀ state l i j counter = count - counter
+
+pub rising-spec : {M : Type 1} → statement M
+rising-spec =
+    tie.close
+    (tie.spec Inv-loop μ-loop (λ c κs. search needs) (λ c κs. search needs) (λ c κs. search needs) (λ c. search needs)
+    (λ c κs. search needs) (λ c κs. search needs) (λ c κs. search needs) (λ c κs. search needs) (λ c κs. search needs)
+    (λ c κs. search needs) (λ c κs. search needs) (λ c κs. search needs) (λ c κs. search needs) (λ c. search needs)
+    (λ c. search needs) (λ c. search needs) (λ c. search needs))

@@ -1,0 +1,18 @@
+-- `test_random::samples::scrawl` is safe and ends: its loop counts. The measure is the turns left. Assumes nothing.
+use borrow.Author.Needs.{needs}
+use Prim.Native.Nat.{_-_}
+use Rattle.test_random.proofs.samples.scrawl.Statement.{statement}
+use Rattle.test_random.proofs.samples.scrawl.Tie as tie
+
+abbrev Inv-loop : tie.InvT-loop
+Inv-loop state₀ len s₀ counter₀ state s counter = Unit
+
+abbrev μ-loop : tie.MeasureT-loop
+μ-loop state₀ len s₀ counter₀ state s counter = len - counter
+
+pub scrawl-spec : {M : Type 1} → statement M
+scrawl-spec =
+    tie.close
+    (tie.spec Inv-loop μ-loop (λ c κs. search needs) (λ c κs. search needs) (λ c. search needs) (λ c κs. search needs)
+    (λ c κs. search needs) (λ c κs. search needs) (λ c κs. search needs) (λ c κs. search needs) (λ c. search needs)
+    (λ c. search needs) (λ c. search needs) (λ c. search needs))

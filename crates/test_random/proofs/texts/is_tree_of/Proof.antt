@@ -1,0 +1,18 @@
+-- `test_random::texts::is_tree_of` is safe and ends: its loop counts. The measure is the turns left. Assumes nothing.
+use borrow.Author.Needs.{needs}
+use Prim.Native.Nat.{_-_}
+use Rattle.test_random.proofs.texts.is_tree_of.Statement.{statement}
+use Rattle.test_random.proofs.texts.is_tree_of.Tie as tie
+
+abbrev Inv-loop : tie.InvT-loop
+Inv-loop n nodes left i₀ i = Unit
+
+abbrev μ-loop : tie.MeasureT-loop
+μ-loop n nodes left i₀ i = 16 - i
+
+pub is-tree-of-spec : {M : Type 1} → statement M
+is-tree-of-spec =
+    tie.close
+    (tie.spec Inv-loop μ-loop (λ c. search needs) (λ c. search needs) (λ c. search needs) (λ c κs. search needs)
+    (λ c κs. search needs) (λ c. search needs) (λ c. search needs) (λ c. search needs) (λ c. search needs)
+    (λ c. search needs))

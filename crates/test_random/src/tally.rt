@@ -1,0 +1,142 @@
+// What the random cases count, and how it is printed.
+use super::samples::Sample;
+use test_words::Text;
+use test_words::blank;
+use test_words::plain::more;
+use test_words::plain::part;
+use test_words::print;
+use test_words::with_bytes;
+use test_words::with_number;
+
+// Calls accepted, calls refused by ground, and those that are not answered as they must be.
+pub struct Count {
+    pub accepted: usize,
+    pub by_ground: [usize; 23],
+    pub wrong: usize,
+}
+
+// What the random sessions count besides: the seeds, the best chains compared, those of two seeds or more, those with a tie, and the open
+// areas.
+pub struct Seen {
+    pub seeds: usize,
+    pub chains: usize,
+    pub longer: usize,
+    pub ties: usize,
+    pub areas: usize,
+}
+
+// What is counted from case to case.
+pub struct Counts {
+    pub count: Count,
+    pub seen: Seen,
+}
+
+pub fn none() -> Count {
+    Count {
+        accepted: 0,
+        by_ground: [0; 23],
+        wrong: 0,
+    }
+}
+
+pub fn nothing() -> Seen {
+    Seen {
+        seeds: 0,
+        chains: 0,
+        longer: 0,
+        ties: 0,
+        areas: 0,
+    }
+}
+
+// The first mistakes are printed, and all are counted.
+pub fn marked(c: Count, right: bool, what: &[u8]) -> Count {
+    let mut next = c;
+    if !right {
+        if c.wrong < 20 {
+            io::write_all(1, b"WRONG: ");
+            io::write_all(1, what);
+            io::write_all(1, b"\n");
+        }
+        next.wrong = more(c.wrong);
+    }
+    next
+}
+
+// One call more, refused on this ground or, if it is 0, accepted.
+pub fn counted(c: Count, ground: usize, right: bool) -> Count {
+    let mut next = c;
+    if ground == 0 {
+        next.accepted = more(c.accepted);
+    }
+    if ground < 23 {
+        let before = c.by_ground[ground];
+        next.by_ground[ground] = more(before);
+    }
+    marked(next, right, b"an answer")
+}
+
+pub fn with_seeds(s: Seen, ground: usize) -> Seen {
+    let mut next = s;
+    if ground == 0 {
+        next.seeds = more(s.seeds);
+    }
+    next
+}
+
+pub fn with_areas(s: Seen, n: usize) -> Seen {
+    let mut next = s;
+    if n < 1000 {
+        if s.areas < 1000000000 {
+            next.areas = s.areas + n;
+        }
+    }
+    next
+}
+
+fn refused(c: Count, ground: usize) -> usize {
+    if ground < 23 { c.by_ground[ground] } else { 0 }
+}
+
+fn with_count(t: Text, n: usize, what: &[u8]) -> Text {
+    with_bytes(with_number(t, n), what)
+}
+
+fn with_refused(t: Text, c: Count) -> Text {
+    let mut next = t;
+    for ground in 1..23 {
+        let n = refused(c, ground);
+        if 0 < n {
+            next = with_count(with_bytes(next, b", "), n, b" refused on ");
+            next = with_number(next, ground);
+        }
+    }
+    next
+}
+
+// A line with what was counted of a group.
+pub fn print_count(group: &[u8], c: Count) {
+    let accepted = with_count(with_bytes(blank(), group), c.accepted, b" accepted");
+    let refused = with_refused(accepted, c);
+    print(with_count(with_bytes(refused, b", "), c.wrong, b" wrong\n"));
+}
+
+// A line with what else was counted.
+pub fn print_seen(s: Seen) {
+    let seeds = with_count(blank(), s.seeds, b" seeds, ");
+    let chains = with_count(seeds, s.chains, b" best chains, ");
+    let longer = with_count(chains, s.longer, b" of two seeds or more, ");
+    let ties = with_count(longer, s.ties, b" with a tie, ");
+    print(with_count(ties, s.areas, b" open areas\n"));
+}
+
+fn print_bytes(bytes: [u8; 12], n: usize) {
+    io::write_all(1, part(&bytes, 0, n));
+}
+
+pub fn print_sample(what: &[u8], sample: Sample) {
+    let bytes = sample.bytes;
+    io::write_all(1, what);
+    print_bytes(bytes, sample.len);
+    io::write_all(1, b"\n");
+}

@@ -1,0 +1,93 @@
+// Random texts, held to grounds 1 to 4 and to the leftmost leaves of their trees.
+use super::samples::Sample;
+use super::samples::scrawl;
+use super::samples::structure;
+use super::tally::Count;
+use super::tally::counted;
+use super::tally::none;
+use super::tally::print_sample;
+use test_brute::nodes::Nodes;
+use test_brute::nodes::leftmost;
+use test_brute::nodes::nodes_of;
+use test_brute::texts::judge;
+use test_words::answers::ground_of;
+use test_words::answers::kind_of;
+use test_words::answers::place_of;
+use test_words::plain::part;
+use test_words::plain::wide;
+
+// Whether a tree that was read has these nodes.
+fn is_tree_of(n: usize, left: [u8; 256], nodes: Nodes) -> bool {
+    if n != nodes.n {
+        return false;
+    }
+    for i in 0..16 {
+        if i < nodes.n {
+            if wide(left[i]) != leftmost(nodes, i) {
+                return false;
+            }
+        }
+    }
+    true
+}
+
+fn kind_asked(ground: usize) -> u8 {
+    if ground == 0 { b'-' } else { b'Q' }
+}
+
+fn read_right(s: &[u8]) -> bool {
+    let r = tree::read(s);
+    let tree = r.tree;
+    let answer = r.answer;
+    let v = judge(s);
+    if ground_of(answer) != v.ground {
+        return false;
+    }
+    if kind_of(answer) != kind_asked(v.ground) {
+        return false;
+    }
+    if place_of(answer) != v.at {
+        return false;
+    }
+    if v.ground == 0 {
+        let left = tree.left;
+        return is_tree_of(tree.n, left, nodes_of(s));
+    }
+    tree.n == 2
+}
+
+// One random text: every other one is a structure.
+fn text(state: &mut u64, k: usize) -> Sample {
+    if k % 2 == 0 {
+        return scrawl(state);
+    }
+    structure(state)
+}
+
+fn right_bytes(bytes: [u8; 12], n: usize) -> bool {
+    read_right(part(&bytes, 0, n))
+}
+
+fn ground_bytes(bytes: [u8; 12], n: usize) -> usize {
+    judge(part(&bytes, 0, n)).ground
+}
+
+fn one(count: Count, sample: Sample) -> Count {
+    let bytes = sample.bytes;
+    let right = right_bytes(bytes, sample.len);
+    let next = counted(count, ground_bytes(bytes, sample.len), right);
+    if !right {
+        print_sample(b"  in the text ", sample);
+    }
+    next
+}
+
+pub fn texts(cases: usize, seed: u64) -> Count {
+    let mut state = seed;
+    let mut count = none();
+    for k in 0..cases {
+        let sample = text(&mut state, k);
+        count = one(count, sample);
+    }
+    count
+}
