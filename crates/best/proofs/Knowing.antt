@@ -2,7 +2,7 @@
 -- nothing.
 use mathlib.Core.Path.{_≡_, refl, sym, ap, _∙_}
 use mathlib.Core.Bool.{Bool, true, false, _||_, false≢true}
-use mathlib.Core.List.{List}
+use mathlib.Core.List.{List, [], _∷_}
 use mathlib.Core.Logic.{_⊎_, inl, inr}
 use Prim.Native.Nat.{ℕ, _-_, _^_, _≤_, _<_}
 use native.Mathlib.Omega.{arith}
@@ -15,7 +15,9 @@ use Rattle.seed.specs.AreaList.{left, under}
 use Rattle.seed.specs.declared.Pair.{Pair}
 use Rattle.optimum.specs.Key.{maskOf, inMask}
 use Rattle.optimum.proofs.Masks.{mask-self}
-use Rattle.best.specs.Stands.{widenedBy, Composed}
+use Rattle.best.specs.Stands.{widenedBy, withSeed, standOf, Composed}
+use Rattle.best.specs.declared.stands.Stand.{Stand}
+use Rattle.best.specs.declared.stands.Masks.{Masks}
 use Rattle.best.specs.Table.{minus}
 use Rattle.best.proofs.Bits.{either, in-either, mask-same, mask-past, alone-has, alone-is, below-has, minus-from, minus-gone}
 use Rattle.best.proofs.Members.{nothing}
@@ -163,7 +165,7 @@ module _ (Q T : List ℕ) (seed : ℕ → List Pair) (w : List Pair) (lefts unde
           | inr (inr (inr m)) ↦ m
         ]
 
-    pub known-more : Known F G y rest′ l′ u′
+    known-more : Known F G y rest′ l′ u′
     known-more =
         record {
           inside = λ j t. h .inside j (minus-from rest (bitOr (bitOr (2 ^ k) l′) u′) j (sym (ap (λ (m : ℕ). inMask m j) r) ∙ t));
@@ -172,3 +174,11 @@ module _ (Q T : List ℕ) (seed : ℕ → List Pair) (w : List Pair) (lefts unde
           left-has = left-kept;
           under-has = under-kept;
         }
+
+  -- The same of two masks at once.
+  module _ {rest : ℕ} {m m′ : Masks} (h : Known F G y rest (m .left) (m .under)) (few : y ≤ 64) (k : ℕ) (on : inMask rest k ≡ true) (st : Stand) (s : Pair) (e : st ≡ standOf Q T (s ∷ []) w) (g : s ∷ [] ≡ seed k) (f : m′ ≡ withSeed m st k (getD lefts k 0) (getD unders k 0)) where
+    with-is : m′ ≡ withSeed m (standOf Q T (seed k) w) k (getD lefts k 0) (getD unders k 0)
+    with-is = f ∙ ap (λ (x : Stand). withSeed m x k (getD lefts k 0) (getD unders k 0)) (e ∙ ap (λ (x : List Pair). standOf Q T x w) g)
+
+    pub known-with : {rest′ : ℕ} → rest′ ≡ minus rest (bitOr (bitOr (2 ^ k) (m′ .left)) (m′ .under)) → Known F G y rest′ (m′ .left) (m′ .under)
+    known-with r = known-more h few k on (ap (λ (x : Masks). x .left) with-is) (ap (λ (x : Masks). x .under) with-is) r

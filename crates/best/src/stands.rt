@@ -9,10 +9,11 @@ use seed::stands::fits;
 ghost use mathlib.Core.Path.{_≡_};
 ghost use mathlib.Core.List.{[], _∷_};
 ghost use Prim.Native.Nat.{_<_};
-ghost use Rattle.seed.specs.Pairs.{pairsOf};
+ghost use lib.ListN.{getD};
+ghost use Rattle.seed.specs.Pairs.{pairOf, pairsOf};
 ghost use Rattle.seed.specs.Seed.{lastPair};
 ghost use Rattle.best.specs.Order.{Bounded};
-ghost use Rattle.best.specs.Stands.{nodesOf, standOf, masksOf, widenedBy, alone, seedAt, Listed, Lasts, LastAt, Composed, Placed, Lawful, Related};
+ghost use Rattle.best.specs.Stands.{nodesOf, standOf, masksOf, widenedBy, withSeed, alone, seedAt, Listed, Lasts, LastAt, Composed, Placed, Lawful, Related};
 
 // Whether a seed stands left of another, and whether under it.
 pub struct Stand {
@@ -84,36 +85,54 @@ fn lasts(nodes: &[u8], bounds: &[u16], numbers: &[u8], count: usize) -> [u8; 64]
     last
 }
 
+// The last pair of the seed at place k.
+fn last_pair(rq: &[u8; 64], rt: &[u8; 64], k: usize) -> Pair
+    requires { ⌜ k < 64 ⌝ }
+    ensures { λ r. ⌜ r ≡ pairOf (getD (now (rq .entry)) k 0) (getD (now (rt .entry)) k 0) ⌝ }
+{
+    Pair { q: rq[k], t: rt[k] }
+}
+
+// The masks with the seed at place k, as it stands, and with those that its own masks have: what is under a seed stands as that seed does, and
+// what is left of one that stands left is left too.
+fn with_seed(m: Masks, stand: Stand, k: usize, lefts: &[u64; 64], unders: &[u64; 64]) -> Masks
+    requires { ⌜ k < 64 ⌝ }
+    ensures { λ r. ⌜ r ≡ withSeed m stand k (getD (now (lefts .entry)) k 0) (getD (now (unders .entry)) k 0) ⌝ }
+{
+    let before = lefts[k];
+    let below = unders[k];
+    Masks {
+        left: widened(m.left, stand.left, k, before | below),
+        under: widened(m.under, stand.under, k, below),
+    }
+}
+
 // How the seeds before place y stand to the seed of uq and ut, which is there. The last nodes of all are in rq and rt, and the masks of those
-// before y in lefts and unders: what is under a seed stands as that seed does, what is left of one that stands left is left too, and neither is
-// looked at.
+// before y in lefts and unders: what a seed that is looked at tells of is not looked at.
 fn masks_at(
     lq: &[u8],
     lt: &[u8],
     uq: &[u8],
     ut: &[u8],
-    rq: &[u8],
-    rt: &[u8],
-    lefts: &[u64],
-    unders: &[u64],
+    rq: &[u8; 64],
+    rt: &[u8; 64],
+    lefts: &[u64; 64],
+    unders: &[u64; 64],
     y: usize,
 ) -> Masks
     requires { ⌜ LastAt (now uq) (now ut) (now rq) (now rt) y ⌝ ∗ ⌜ Composed (now lq) (now lt) (alone (now rq) (now rt)) (pairsOf (now uq) (now ut)) (now lefts) (now unders) y ⌝ }
     ensures { λ r. ⌜ r ≡ masksOf (now (lq .entry)) (now (lt .entry)) (alone (now (rq .entry)) (now (rt .entry))) (pairsOf (now (uq .entry)) (now (ut .entry))) y ⌝ }
 {
-    let u = Pair { q: rq[y], t: rt[y] };
-    let mut left = 0;
-    let mut under = 0;
+    let u = last_pair(rq, rt, y);
+    let mut masks = Masks { left: 0, under: 0 };
     let mut rest = bit(y) - 1;
     while rest != 0 {
         let k = highest(rest);
-        let s = Pair { q: rq[k], t: rt[k] };
-        let stand = stands_to(lq, lt, uq, ut, u, s);
-        left = widened(left, stand.left, k, lefts[k] | unders[k]);
-        under = widened(under, stand.under, k, unders[k]);
-        rest = without(rest, bit(k) | left | under);
+        let stand = stands_to(lq, lt, uq, ut, u, last_pair(rq, rt, k));
+        masks = with_seed(masks, stand, k, lefts, unders);
+        rest = without(rest, bit(k) | masks.left | masks.under);
     }
-    Masks { left, under }
+    masks
 }
 
 // The masks of every seed of a list.
@@ -138,7 +157,7 @@ pub fn relate(
         let i = numbers[y] as usize;
         let uq = nodes_of(qs, bounds, i);
         let ut = nodes_of(ts, bounds, i);
-        let m = masks_at(lq, lt, uq, ut, &rq[..], &rt[..], &lefts[..], &unders[..], y);
+        let m = masks_at(lq, lt, uq, ut, &rq, &rt, &lefts, &unders, y);
         lefts[y] = m.left;
         unders[y] = m.under;
         y += 1;

@@ -35,18 +35,6 @@ nodes-of-requires c κs = (c .before .before .before .before .before .before .be
 nodes-of-requires-2 : tie.Need-nodes-of-requires-2 Inv-loop μ-loop
 nodes-of-requires-2 c κs = (c .before .before .before .before .before .before .before .before .before .before .before .before .pre .0 .listed-t .bounded) (c .before .before .before .loop .y) (c .before .before .loop-test .taken)
 
-slice-aggregate-masks-at : tie.Need-slice-aggregate-masks-at Inv-loop μ-loop
-slice-aggregate-masks-at c = search needs
-
-slice-aggregate-masks-at-2 : tie.Need-slice-aggregate-masks-at-2 Inv-loop μ-loop
-slice-aggregate-masks-at-2 c = search needs
-
-slice-aggregate-masks-at-3 : tie.Need-slice-aggregate-masks-at-3 Inv-loop μ-loop
-slice-aggregate-masks-at-3 c = search needs
-
-slice-aggregate-masks-at-4 : tie.Need-slice-aggregate-masks-at-4 Inv-loop μ-loop
-slice-aggregate-masks-at-4 c = search needs
-
 masks-at-requires : tie.Need-masks-at-requires Inv-loop μ-loop
 masks-at-requires c κs = (last-there _ _ _ _ _ (c .before .before .before .before .before .before .before .before .before .before .before .before .before .before .before .before .before .pre .0) _ _ (c .before .before .before .before .before .before .before .before .before .before .lasts .ensures) (c .before .before .before .before .before .before .before .before .before .lasts2 .ensures) _ (c .before .before .before .before .before .before .before .loop-test .taken) (c .before .before .before .before .before .nodes-of .ensures) (c .before .before .before .before .nodes-of2 .ensures), composed _ _ _ _ _ (c .before .before .before .before .before .before .before .before .before .before .before .before .before .before .before .before .before .pre .0) _ _ (c .before .before .before .before .before .before .before .before .before .before .lasts .ensures) (c .before .before .before .before .before .before .before .before .before .lasts2 .ensures) _ (c .before .before .before .before .before .before .before .loop-test .taken) (c .before .before .before .before .before .nodes-of .ensures) (c .before .before .before .before .nodes-of2 .ensures) _ _ (c .before .before .before .before .before .before .before .before .before .before .before .before .before .before .before .before .before .pre .1) _ _ (c .before .before .before .before .before .before .before .before .loop .inv .1))
 
@@ -87,10 +75,6 @@ relate-spec =
     cast-i
     nodes-of-requires
     nodes-of-requires-2
-    slice-aggregate-masks-at
-    slice-aggregate-masks-at-2
-    slice-aggregate-masks-at-3
-    slice-aggregate-masks-at-4
     masks-at-requires
     mul-lefts
     array-write-lefts
