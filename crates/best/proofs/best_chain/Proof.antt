@@ -23,7 +23,11 @@ same-length : tie.Need-same-length
 same-length c = search needs
 
 returns-2 : tie.Need-returns-2
-returns-2 c = best-accepted _ _ _ _ _ _ _ ((c .before .before .before .before .before .before .before .best-key .last .1 .1 .1 .1 .1 .1 .0)) _ _ _ _ (c .before .before .before .before .before .before .before .before .before .if1 .left) (c .before .before .before .before .before .before .before .best-key .ensures) (c .unpacked .ensures) ((c .before .before .before .before .before .before .before .best-key .kept .1 .1 .1 .1 .1 .1 .0)) (c .before .before .before .clear .ensures)
+returns-2 c =
+    let clear = c .before .before .before in
+    let best-key = clear .before .before .before .before in
+    let long = best-key .before .before in
+    best-accepted _ _ _ _ _ _ _ ((best-key .best-key .last .1 .1 .1 .1 .1 .1 .0)) _ _ _ _ (long .if1 .left) (best-key .best-key .ensures) (c .unpacked .ensures) ((best-key .best-key .kept .1 .1 .1 .1 .1 .1 .0)) (clear .clear .ensures)
 
 pub best-chain-spec : {M : Type 1} → statement M
 best-chain-spec =

@@ -13,7 +13,9 @@ slice-aggregate-ordered-2 : tie.Need-slice-aggregate-ordered-2
 slice-aggregate-ordered-2 c = search needs
 
 ordered-requires : tie.Need-ordered-requires
-ordered-requires c κs = (bounded-q _ _ (c .before .before .before .before .before .before .before .before .pre .0 .kept .laid), (c .before .before .before .before .before .before .before .before .pre .0 .kept .laid .seeds))
+ordered-requires c κs =
+    let start = c .before .before .before .before .before .before .before .before in
+    (bounded-q _ _ (start .pre .0 .kept .laid), (start .pre .0 .kept .laid .seeds))
 
 array-share-prefix-lq : tie.Need-array-share-prefix-lq
 array-share-prefix-lq c = tree-fits _ (c .before .before .before .before .before .before .before .before .before .before .pre .0 .kept .is-q)
@@ -40,7 +42,10 @@ slice-aggregate-relate-6 : tie.Need-slice-aggregate-relate-6
 slice-aggregate-relate-6 c = search needs
 
 relate-requires : tie.Need-relate-requires
-relate-requires c κs = (placed _ _ (c .before .before .before .before .before .before .before .before .before .before .before .before .before .before .before .before .pre .0 .kept .laid) _ _ _ _ (c .before .before .before .before .before .before .before .ordered .ensures), lawful _ _ _ _ _ (c .before .before .before .before .before .before .before .before .before .before .before .before .before .before .before .before .args .present) (c .before .before .before .before .before .before .before .before .before .before .before .before .before .before .before .before .pre .0) _ _ (c .before .before .before .before .before .before .before .ordered .ensures))
+relate-requires c κs =
+    let ordered = c .before .before .before .before .before .before .before in
+    let start = ordered .before .before .before .before .before .before .before .before .before in
+    (placed _ _ (start .pre .0 .kept .laid) _ _ _ _ (ordered .ordered .ensures), lawful _ _ _ _ _ (start .args .present) (start .pre .0) _ _ (ordered .ordered .ensures))
 
 slice-aggregate-solve : tie.Need-slice-aggregate-solve
 slice-aggregate-solve c = search needs
@@ -52,13 +57,21 @@ slice-aggregate-solve-3 : tie.Need-slice-aggregate-solve-3
 slice-aggregate-solve-3 c = search needs
 
 solve-requires : tie.Need-solve-requires
-solve-requires c κs = (table-posed _ _ _ _ _ (c .before .before .before .before .before .before .before .before .before .before .before .before .before .before .before .before .before .before .before .before .before .before .before .args .present) (c .before .before .before .before .before .before .before .before .before .before .before .before .before .before .before .before .before .before .before .before .before .before .before .pre .0) _ _ (c .before .before .before .before .before .before .before .before .before .before .before .before .before .before .ordered .ensures) _ _ (c .before .before .before .before .before .before .relate .ensures), (c .before .before .before .before .before .before .before .before .before .before .before .before .before .before .before .before .before .before .before .before .before .before .before .pre .1))
+solve-requires c κs =
+    let relate = c .before .before .before .before .before .before in
+    let ordered = relate .before .before .before .before .before .before .before .before in
+    let start = ordered .before .before .before .before .before .before .before .before .before in
+    (table-posed _ _ _ _ _ (start .args .present) (start .pre .0) _ _ (ordered .ordered .ensures) _ _ (relate .relate .ensures), (start .pre .1))
 
 same-length : tie.Need-same-length
 same-length c = search needs
 
 returns : tie.Need-returns
-returns c = (c .before .before .solve .ensures) ∙ table-key _ _ _ _ _ (c .before .before .before .before .before .before .before .before .before .before .before .before .before .before .before .before .before .before .before .before .before .before .before .before .before .before .args .present) (c .before .before .before .before .before .before .before .before .before .before .before .before .before .before .before .before .before .before .before .before .before .before .before .before .before .before .pre .0) _ _ (c .before .before .before .before .before .before .before .before .before .before .before .before .before .before .before .before .before .ordered .ensures) _ _ (c .before .before .before .before .before .before .before .before .before .relate .ensures)
+returns c =
+    let relate = c .before .before .before .before .before .before .before .before .before in
+    let ordered = relate .before .before .before .before .before .before .before .before in
+    let start = ordered .before .before .before .before .before .before .before .before .before in
+    (c .before .before .solve .ensures) ∙ table-key _ _ _ _ _ (start .args .present) (start .pre .0) _ _ (ordered .ordered .ensures) _ _ (relate .relate .ensures)
 
 pub best-key-spec : {M : Type 1} → statement M
 best-key-spec =

@@ -40,7 +40,10 @@ last-pair-requires-2 : tie.Need-last-pair-requires-2 Inv-loop μ-loop
 last-pair-requires-2 c κs = c .highest .ensures .few
 
 stands-to-requires : tie.Need-stands-to-requires Inv-loop μ-loop
-stands-to-requires c κs = c .before .before .before .before .before .last-pair .ensures ∙ c .before .before .before .before .before .before .before .before .before .before .pre .0 .is
+stands-to-requires c κs =
+    let last-pair = c .before .before .before .before .before in
+    let start = last-pair .before .before .before .before .before in
+    last-pair .last-pair .ensures ∙ start .pre .0 .is
 
 with-seed-requires : tie.Need-with-seed-requires Inv-loop μ-loop
 with-seed-requires c κs = c .before .before .highest .ensures .few

@@ -33,10 +33,21 @@ nodes-of-requires : tie.Need-nodes-of-requires Inv-loop μ-loop
 nodes-of-requires c κs = (c .before .before .before .before .before .before .before .before .before .before .before .pre .0 .listed-q .bounded) (c .before .before .loop .y) (c .before .loop-test .taken)
 
 nodes-of-requires-2 : tie.Need-nodes-of-requires-2 Inv-loop μ-loop
-nodes-of-requires-2 c κs = (c .before .before .before .before .before .before .before .before .before .before .before .before .pre .0 .listed-t .bounded) (c .before .before .before .loop .y) (c .before .before .loop-test .taken)
+nodes-of-requires-2 c κs =
+    let turn = c .before .before .before in
+    let start = turn .before .before .before .before .before .before .before .before .before in
+    (start .pre .0 .listed-t .bounded) (turn .loop .y) (c .before .before .loop-test .taken)
 
 masks-at-requires : tie.Need-masks-at-requires Inv-loop μ-loop
-masks-at-requires c κs = (last-there _ _ _ _ _ (c .before .before .before .before .before .before .before .before .before .before .before .before .before .before .before .before .before .pre .0) _ _ (c .before .before .before .before .before .before .before .before .before .before .lasts .ensures) (c .before .before .before .before .before .before .before .before .before .lasts2 .ensures) _ (c .before .before .before .before .before .before .before .loop-test .taken) (c .before .before .before .before .before .nodes-of .ensures) (c .before .before .before .before .nodes-of2 .ensures), composed _ _ _ _ _ (c .before .before .before .before .before .before .before .before .before .before .before .before .before .before .before .before .before .pre .0) _ _ (c .before .before .before .before .before .before .before .before .before .before .lasts .ensures) (c .before .before .before .before .before .before .before .before .before .lasts2 .ensures) _ (c .before .before .before .before .before .before .before .loop-test .taken) (c .before .before .before .before .before .nodes-of .ensures) (c .before .before .before .before .nodes-of2 .ensures) _ _ (c .before .before .before .before .before .before .before .before .before .before .before .before .before .before .before .before .before .pre .1) _ _ (c .before .before .before .before .before .before .before .before .loop .inv .1))
+masks-at-requires c κs =
+    let t-nodes = c .before .before .before .before in
+    let q-nodes = t-nodes .before in
+    let test = q-nodes .before .before in
+    let turn = test .before in
+    let t-lasts = turn .before in
+    let q-lasts = t-lasts .before in
+    let start = q-lasts .before .before .before .before .before .before .before in
+    (last-there _ _ _ _ _ (start .pre .0) _ _ (q-lasts .lasts .ensures) (t-lasts .lasts2 .ensures) _ (test .loop-test .taken) (q-nodes .nodes-of .ensures) (t-nodes .nodes-of2 .ensures), composed _ _ _ _ _ (start .pre .0) _ _ (q-lasts .lasts .ensures) (t-lasts .lasts2 .ensures) _ (test .loop-test .taken) (q-nodes .nodes-of .ensures) (t-nodes .nodes-of2 .ensures) _ _ (start .pre .1) _ _ (turn .loop .inv .1))
 
 mul-lefts : tie.Need-mul-lefts Inv-loop μ-loop
 mul-lefts c = omega (arith, c .before .before .before .before .before .before .before .before .before .before .before .before .before .before .before .before .before .before .pre .0 .listed-q .few)
@@ -57,7 +68,15 @@ loop-less : tie.Need-loop-less Inv-loop μ-loop
 loop-less c = omega arith
 
 loop-again : tie.Need-loop-again Inv-loop μ-loop
-loop-again c = (omega arith, related-turn _ _ _ _ _ _ _ (omega (arith, c .before .before .before .before .before .before .before .before .before .before .before .before .before .before .before .before .before .before .pre .0 .listed-q .few)) (c .before .before .before .before .before .before .before .before .before .loop .inv .1) (c .masks-at .ensures ∙ masks-same _ _ _ _ _ (c .before .before .before .before .before .before .before .before .before .before .before .before .before .before .before .before .before .before .pre .0) _ _ (c .before .before .before .before .before .before .before .before .before .before .before .lasts .ensures) (c .before .before .before .before .before .before .before .before .before .before .lasts2 .ensures) _ (c .before .before .before .before .before .before .before .before .loop-test .taken) (c .before .before .before .before .before .before .nodes-of .ensures) (c .before .before .before .before .before .nodes-of2 .ensures) _ _))
+loop-again c =
+    let t-nodes = c .before .before .before .before .before in
+    let q-nodes = t-nodes .before in
+    let test = q-nodes .before .before in
+    let turn = test .before in
+    let t-lasts = turn .before in
+    let q-lasts = t-lasts .before in
+    let start = q-lasts .before .before .before .before .before .before .before in
+    (omega arith, related-turn _ _ _ _ _ _ _ (omega (arith, start .pre .0 .listed-q .few)) (turn .loop .inv .1) (c .masks-at .ensures ∙ masks-same _ _ _ _ _ (start .pre .0) _ _ (q-lasts .lasts .ensures) (t-lasts .lasts2 .ensures) _ (test .loop-test .taken) (q-nodes .nodes-of .ensures) (t-nodes .nodes-of2 .ensures) _ _))
 
 returns : tie.Need-returns Inv-loop μ-loop
 returns c = let x : (c .before .loop .y) ≡ (c .before .before .before .before .before .before .before .before .before .before .args .count) = omega arith in rw x at (c .before .loop .inv .1)

@@ -25,10 +25,16 @@ shared-slice-read-fill-row : tie.Need-shared-slice-read-fill-row Inv-loop μ-loo
 shared-slice-read-fill-row c = omega (arith, c .before .before .before .before .before .before .before .before .pre .0 .unders-long)
 
 fill-row-requires : tie.Need-fill-row-requires Inv-loop μ-loop
-fill-row-requires c κs = item-room _ _ _ _ _ (c .before .before .before .before .before .before .before .before .pre .0) _ (c .before .before .before .before .before .before .before .before .pre .1) _ (c .before .before .loop-test .taken) _ (c .before .before .before .loop .inv .1)
+fill-row-requires c κs =
+    let turn = c .before .before .before in
+    let start = turn .before .before .before .before .before in
+    item-room _ _ _ _ _ (start .pre .0) _ (start .pre .1) _ (c .before .before .loop-test .taken) _ (turn .loop .inv .1)
 
 shared-slice-read-number : tie.Need-shared-slice-read-number Inv-loop μ-loop
-shared-slice-read-number c = omega (arith, c .before .before .before .before .before .before .before .before .before .before .before .before .pre .0 .numbers-long, c .before .before .before .before .before .before .loop-test .taken)
+shared-slice-read-number c =
+    let test = c .before .before .before .before .before .before in
+    let start = test .before .before .before .before .before .before in
+    omega (arith, start .pre .0 .numbers-long, test .loop-test .taken)
 
 cast-number : tie.Need-cast-number Inv-loop μ-loop
 cast-number c = omega (arith, (c .shared-slice-known5 .given) (c .before .before .before .before .before .before .before .loop .y))
@@ -37,25 +43,54 @@ mul-clipped : tie.Need-mul-clipped Inv-loop μ-loop
 mul-clipped c = omega (arith, (c .shared-slice-known5 .given) (c .before .before .before .before .before .before .before .loop .y))
 
 array-copy-out-clipped : tie.Need-array-copy-out-clipped Inv-loop μ-loop
-array-copy-out-clipped c = (c .before .before .before .before .before .before .before .before .before .before .before .before .pre .0 .limited .numbered .within) (c .before .before .before .before .before .before .before .loop .y) (c .before .before .before .before .before .before .loop-test .taken)
+array-copy-out-clipped c =
+    let test = c .before .before .before .before .before .before in
+    let turn = test .before in
+    let start = turn .before .before .before .before .before in
+    (start .pre .0 .limited .numbered .within) (turn .loop .y) (test .loop-test .taken)
 
 bit-requires : tie.Need-bit-requires Inv-loop μ-loop
-bit-requires c κs = (c .before .before .before .before .before .before .before .before .before .before .before .before .before .pre .0 .limited .numbered .within) (c .before .before .before .before .before .before .before .before .loop .y) (c .before .before .before .before .before .before .before .loop-test .taken)
+bit-requires c κs =
+    let test = c .before .before .before .before .before .before .before in
+    let turn = test .before in
+    let start = turn .before .before .before .before .before in
+    (start .pre .0 .limited .numbered .within) (turn .loop .y) (test .loop-test .taken)
 
 clipped-requires : tie.Need-clipped-requires Inv-loop μ-loop
-clipped-requires c κs = rw (c .bit .ensures) (item-small _ _ _ _ _ (c .before .before .before .before .before .before .before .before .before .before .before .before .before .before .pre .0) _ (c .before .before .before .before .before .before .before .before .before .before .before .before .before .before .pre .1) _ (c .before .before .before .before .before .before .before .before .loop-test .taken) _ (c .before .before .before .before .before .before .before .before .before .loop .inv .1) _ _ _ (c .before .before .before .before .before .fill-row .ensures))
+clipped-requires c κs =
+    let fill-row = c .before .before .before .before .before in
+    let test = fill-row .before .before .before in
+    let turn = test .before in
+    let start = turn .before .before .before .before .before in
+    rw (c .bit .ensures) (item-small _ _ _ _ _ (start .pre .0) _ (start .pre .1) _ (test .loop-test .taken) _ (turn .loop .inv .1) _ _ _ (fill-row .fill-row .ensures))
 
 put-requires : tie.Need-put-requires Inv-loop μ-loop
-put-requires c κs = omega (arith, c .before .before .before .before .before .before .before .before .before .before .before .before .before .before .before .before .pre .0 .limited .items, c .before .before .before .before .before .before .before .before .before .before .loop-test .taken, c .before .before .before .before .before .before .before .before .before .before .before .before .before .before .before .before .pre .1, c .before .before .before .before .before .before .before .fill-row .ensures .long, c .before .before .before .before .before .before .before .before .before .before .before .loop .inv .1 .long)
+put-requires c κs =
+    let fill-row = c .before .before .before .before .before .before .before in
+    let test = fill-row .before .before .before in
+    let turn = test .before in
+    let start = turn .before .before .before .before .before in
+    omega (arith, start .pre .0 .limited .items, test .loop-test .taken, start .pre .1, fill-row .fill-row .ensures .long, turn .loop .inv .1 .long)
 
 add-y : tie.Need-add-y Inv-loop μ-loop
-add-y c = omega (arith, c .before .before .before .before .before .before .before .before .before .before .before .before .before .before .before .before .before .before .before .pre .0 .limited .items, c .before .before .before .before .before .before .before .before .before .before .before .before .before .loop-test .taken)
+add-y c =
+    let test = c .before .before .before .before .before .before .before .before .before .before .before .before .before in
+    let start = test .before .before .before .before .before .before in
+    omega (arith, start .pre .0 .limited .items, test .loop-test .taken)
 
 loop-less : tie.Need-loop-less Inv-loop μ-loop
 loop-less c = omega (arith, c .before .before .before .before .before .before .before .before .before .before .before .before .before .loop-test .taken)
 
 loop-again : tie.Need-loop-again Inv-loop μ-loop
-loop-again c = (omega (arith, c .before .before .before .before .before .before .before .before .before .before .before .before .before .loop-test .taken), item-turn _ _ _ _ _ (c .before .before .before .before .before .before .before .before .before .before .before .before .before .before .before .before .before .before .before .pre .0) _ (c .before .before .before .before .before .before .before .before .before .before .before .before .before .before .before .before .before .before .before .pre .1) _ (c .before .before .before .before .before .before .before .before .before .before .before .before .before .loop-test .taken) _ (c .before .before .before .before .before .before .before .before .before .before .before .before .before .before .loop .inv .1) _ _ _ (c .before .before .before .before .before .before .before .before .before .before .fill-row .ensures) _ _ _ (rw (toZ-ofZ (sfits-of (c .before .before .before .before .before .before .clipped-arg .given)), c .before .before .before .before .before .bit .ensures) at (c .before .before .before .before .clipped .ensures)) (c .before .before .put .ensures))
+loop-again c =
+    let clipped = c .before .before .before .before in
+    let bit = clipped .before in
+    let clipped-arg = bit .before in
+    let fill-row = clipped-arg .before .before .before .before in
+    let test = fill-row .before .before .before in
+    let turn = test .before in
+    let start = turn .before .before .before .before .before in
+    (omega (arith, test .loop-test .taken), item-turn _ _ _ _ _ (start .pre .0) _ (start .pre .1) _ (test .loop-test .taken) _ (turn .loop .inv .1) _ _ _ (fill-row .fill-row .ensures) _ _ _ (rw (toZ-ofZ (sfits-of (clipped-arg .clipped-arg .given)), bit .bit .ensures) at (clipped .clipped .ensures)) (c .before .before .put .ensures))
 
 same-length : tie.Need-same-length Inv-loop μ-loop
 same-length c = c .before .loop .inv .1 .long

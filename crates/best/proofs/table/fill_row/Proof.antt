@@ -27,22 +27,42 @@ returns : tie.Need-returns Inv-loop μ-loop
 returns c = row-past _ _ _ _ _ _ (c .before .before .before .loop .inv .3) (c .before .before .before .loop .inv .1) (λ j a b. left-past (c .before .before .before .loop .inv .2) (c .before .lowest .ensures) j a (omega arith))
 
 entry-requires : tie.Need-entry-requires Inv-loop μ-loop
-entry-requires c κs = row-room _ _ _ _ (c .before .before .before .before .before .before .before .pre) _ (omega (arith, c .before .if1 .left)) _ (row-past _ _ _ _ _ _ (c .before .before .before .before .loop .inv .3) (left-from (c .before .before .before .before .loop .inv .2) (c .before .before .lowest .ensures)) (left-past (c .before .before .before .before .loop .inv .2) (c .before .before .lowest .ensures))) (rw (left-has (c .before .before .before .before .loop .inv .2) (c .before .before .lowest .ensures)) tt)
+entry-requires c κs =
+    let turn = c .before .before .before .before in
+    let start = turn .before .before .before in
+    row-room _ _ _ _ (start .pre) _ (omega (arith, c .before .if1 .left)) _ (row-past _ _ _ _ _ _ (turn .loop .inv .3) (left-from (turn .loop .inv .2) (c .before .before .lowest .ensures)) (left-past (turn .loop .inv .2) (c .before .before .lowest .ensures))) (rw (left-has (turn .loop .inv .2) (c .before .before .lowest .ensures)) tt)
 
 put-requires : tie.Need-put-requires Inv-loop μ-loop
-put-requires c κs = omega (arith, c .before .before .before .before .lowest .ensures .few, c .before .before .before .before .before .before .loop .inv .3 .long, c .before .before .before .before .before .before .before .before .before .pre .long)
+put-requires c κs =
+    let lowest = c .before .before .before .before in
+    let turn = lowest .before .before in
+    let start = turn .before .before .before in
+    omega (arith, lowest .lowest .ensures .few, turn .loop .inv .3 .long, start .pre .long)
 
 better-of-requires : tie.Need-better-of-requires Inv-loop μ-loop
 better-of-requires c κs = tt
 
 without-lowest-requires : tie.Need-without-lowest-requires Inv-loop μ-loop
-without-lowest-requires c κs = (c .before .before .before .before .before .before .before .before .before .loop-test .taken, c .before .before .before .before .before .before .before .before .lowest .ensures)
+without-lowest-requires c κs =
+    let lowest = c .before .before .before .before .before .before .before .before in
+    let test = lowest .before in
+    (test .loop-test .taken, lowest .lowest .ensures)
 
 loop-less : tie.Need-loop-less Inv-loop μ-loop
-loop-less c = rw (c .without-lowest .ensures) (left-less (c .before .before .before .before .before .before .before .before .before .before .before .loop .inv .2) (c .before .before .before .before .before .before .before .before .before .lowest .ensures))
+loop-less c =
+    let lowest = c .before .before .before .before .before .before .before .before .before in
+    let turn = lowest .before .before in
+    rw (c .without-lowest .ensures) (left-less (turn .loop .inv .2) (lowest .lowest .ensures))
 
 loop-again : tie.Need-loop-again Inv-loop μ-loop
-loop-again c = (c .before .before .before .before .before .before .before .before .before .lowest .result + 1, omega (arith, c .before .before .before .before .before .before .before .before .if1 .left), rw (c .without-lowest .ensures) (left-next (c .before .before .before .before .before .before .before .before .before .before .before .loop .inv .2) (c .before .before .before .before .before .before .before .before .before .lowest .ensures)), row-turn _ _ _ _ (c .before .before .before .before .before .before .before .before .before .before .before .before .before .before .pre) _ (omega (arith, c .before .before .before .before .before .before .before .before .if1 .left)) _ (row-past _ _ _ _ _ _ (c .before .before .before .before .before .before .before .before .before .before .before .loop .inv .3) (left-from (c .before .before .before .before .before .before .before .before .before .before .before .loop .inv .2) (c .before .before .before .before .before .before .before .before .before .lowest .ensures)) (left-past (c .before .before .before .before .before .before .before .before .before .before .before .loop .inv .2) (c .before .before .before .before .before .before .before .before .before .lowest .ensures))) (left-has (c .before .before .before .before .before .before .before .before .before .before .before .loop .inv .2) (c .before .before .before .before .before .before .before .before .before .lowest .ensures)) _ _ _ (c .before .before .before .before .before .before .entry .ensures) (c .before .before .before .before .put .ensures) (c .before .better-of .ensures))
+loop-again c =
+    let put = c .before .before .before .before in
+    let entry = put .before .before in
+    let long = entry .before .before in
+    let lowest = long .before in
+    let turn = lowest .before .before in
+    let start = turn .before .before .before in
+    (lowest .lowest .result + 1, omega (arith, long .if1 .left), rw (c .without-lowest .ensures) (left-next (turn .loop .inv .2) (lowest .lowest .ensures)), row-turn _ _ _ _ (start .pre) _ (omega (arith, long .if1 .left)) _ (row-past _ _ _ _ _ _ (turn .loop .inv .3) (left-from (turn .loop .inv .2) (lowest .lowest .ensures)) (left-past (turn .loop .inv .2) (lowest .lowest .ensures))) (left-has (turn .loop .inv .2) (lowest .lowest .ensures)) _ _ _ (entry .entry .ensures) (put .put .ensures) (c .before .better-of .ensures))
 
 same-length-2 : tie.Need-same-length-2 Inv-loop μ-loop
 same-length-2 c = c .before .loop .inv .3 .long
