@@ -18,7 +18,9 @@ add-t8 : tie.Need-add-t8
 add-t8 c = search needs
 
 returns : tie.Need-returns
-returns c = count-low _ _ (c .before .before .before .before .before .before .args .byte) _ (c .before .before .before .before .before .meaning-of .ensures) _ (c .before .before .before .before .ends-of .ensures) (c .before .if1 .taken)
+returns c =
+    let meaning = c .before .before .before .before .before in
+    count-low _ _ (meaning .before .args .byte) _ (meaning .meaning-of .ensures) _ (c .before .before .before .before .ends-of .ensures) (c .before .if1 .taken)
 
 add-t6 : tie.Need-add-t6
 add-t6 c = search needs
@@ -27,10 +29,14 @@ bytes-of-requires : tie.Need-bytes-of-requires
 bytes-of-requires c κs = search needs
 
 add-t10 : tie.Need-add-t10
-add-t10 c = omega (arith, (c .before .bytes-of .ensures), one-end (c .before .before .before .before .before .before .before .meaning-of .result), two-bytes (c .before .before .before .before .before .before .before .meaning-of .result))
+add-t10 c =
+    let m = c .before .before .before .before .before .before .before .meaning-of .result in
+    omega (arith, c .before .bytes-of .ensures, one-end m, two-bytes m)
 
 returns-2 : tie.Need-returns-2
-returns-2 c = count-high _ _ (c .before .before .before .before .before .before .before .before .args .byte) _ (c .before .before .before .before .before .before .before .meaning-of .ensures) _ (c .before .before .before .before .before .before .ends-of .ensures) (c .before .before .before .if1 .left) _ (c .before .bytes-of .ensures)
+returns-2 c =
+    let meaning = c .before .before .before .before .before .before .before in
+    count-high _ _ (meaning .before .args .byte) _ (meaning .meaning-of .ensures) _ (c .before .before .before .before .before .before .ends-of .ensures) (c .before .before .before .if1 .left) _ (c .before .bytes-of .ensures)
 
 pub count-byte-spec : {M : Type 1} → statement M
 count-byte-spec =

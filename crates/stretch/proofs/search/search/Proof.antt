@@ -36,7 +36,10 @@ part-part-start : tie.Need-part-part-start
 part-part-start c = search needs
 
 part-part-end : tie.Need-part-part-end
-part-part-end c = scan-inside (c .before .before .before .before .before .before .args .a) (c .before .before .before .before .before .before .args .b) (c .before .before .before .before .before .before .args .text .now) _ (c .before .before .before .scan-to .ensures)
+part-part-end c =
+    let scan = c .before .before .before in
+    let args = scan .before .before .before .args in
+    scan-inside (args .a) (args .b) (args .text .now) _ (scan .scan-to .ensures)
 
 read-requires : tie.Need-read-requires
 read-requires c κs = search needs
@@ -45,10 +48,16 @@ enum-told : tie.Need-enum-told
 enum-told c = search needs
 
 add-if4 : tie.Need-add-if4
-add-if4 c = omega (arith, (c .before .before .before .before .before .before .before .before .before .before .before .pre), scan-counts (c .before .before .before .before .before .before .before .before .before .before .before .args .a) (c .before .before .before .before .before .before .before .before .before .before .before .args .b) (c .before .before .before .before .before .before .before .before .before .before .before .args .text .now) _ (c .before .before .before .before .before .before .before .before .scan-to .ensures))
+add-if4 c =
+    let scan = c .before .before .before .before .before .before .before .before in
+    let start = scan .before .before .before in
+    omega (arith, start .pre, scan-counts (start .args .a) (start .args .b) (start .args .text .now) _ (scan .scan-to .ensures))
 
 returns-4 : tie.Need-returns-4
-returns-4 c = search-found _ _ _ _ _ (c .before .before .before .before .before .before .before .before .before .before .scan-to .ensures) _ (c .before .before .before .before .before .read .ensures) (c .before .before .before .before .before .before .before .before .before .before .before .if1 .left) (c .before .before .before .before .before .before .before .before .if2 .left) (c .before .before .before .before .before .before .before .if3 .left) (c .before .before .before .enum-told .given .1) (c .if4 .taken) refl
+returns-4 c =
+    let read = c .before .before .before .before .before in
+    let scan = read .before .before .before .before .before in
+    search-found _ _ _ _ _ (scan .scan-to .ensures) _ (read .read .ensures) (scan .before .if1 .left) (read .before .before .before .if2 .left) (read .before .before .if3 .left) (c .before .before .before .enum-told .given .1) (c .if4 .taken) refl
 
 nowhere-requires-4 : tie.Need-nowhere-requires-4
 nowhere-requires-4 c κs = search needs
@@ -60,10 +69,16 @@ nowhere-requires-5 : tie.Need-nowhere-requires-5
 nowhere-requires-5 c κs = search needs
 
 returns-5 : tie.Need-returns-5
-returns-5 c = search-other _ _ _ _ _ (c .before .before .before .before .before .before .before .before .before .before .before .scan-to .ensures) _ (c .before .before .before .before .before .before .read .ensures) (c .before .before .before .before .before .before .before .before .before .before .before .before .before .before .pre) (c .before .if4 .left) (c .nowhere4 .ensures)
+returns-5 c =
+    let read = c .before .before .before .before .before .before in
+    let scan = read .before .before .before .before .before in
+    search-other _ _ _ _ _ (scan .scan-to .ensures) _ (read .read .ensures) (scan .before .before .before .pre) (c .before .if4 .left) (c .nowhere4 .ensures)
 
 returns-6 : tie.Need-returns-6
-returns-6 c = search-unread _ _ _ _ _ (c .before .before .before .before .before .before .before .before .scan-to .ensures) _ (c .before .before .before .read .ensures) (c .before .before .before .before .before .before .before .before .before .before .before .pre) (λ e. let f = (c .before .enum-told2 .given .1) in clash (cc)) (c .nowhere5 .ensures)
+returns-6 c =
+    let read = c .before .before .before in
+    let scan = read .before .before .before .before .before in
+    search-unread _ _ _ _ _ (scan .scan-to .ensures) _ (read .read .ensures) (scan .before .before .before .pre) (λ e. let f = c .before .enum-told2 .given .1 in clash (cc)) (c .nowhere5 .ensures)
 
 pub search-spec : {M : Type 1} → statement M
 search-spec =
