@@ -1,5 +1,6 @@
 -- `line::put_member` meets its contract: each arm knows whether the chain has the number. Assumes nothing.
 use mathlib.Core.Path.{ap}
+use native.Mathlib.Omega.{arith}
 use Rattle.lines.specs.Lines.{member}
 use Rattle.lines.proofs.Outputs.{puts-none}
 use borrow.Author.Needs.{needs}
@@ -11,7 +12,7 @@ slice-aggregate-put-numbered c = search needs
 
 put-numbered-requires : tie.Need-put-numbered-requires
 unfolding member
-put-numbered-requires c κs = rw (c .before .before .if1 .taken) at (c .before .before .before .before .pre)
+put-numbered-requires c κs = let room = rw (c .before .before .if1 .taken) at (c .before .before .before .before .pre) in record { fits = omega (arith, room) }
 
 same-length : tie.Need-same-length
 same-length c = search needs

@@ -1,5 +1,6 @@
 -- `line::put_place` meets its contract: each arm knows which place it has. Assumes nothing.
 use mathlib.Core.Path.{ap}
+use native.Mathlib.Omega.{arith}
 use Rattle.lines.specs.Lines.{placed}
 use Rattle.lines.proofs.Outputs.{puts-none}
 use borrow.Author.Needs.{needs}
@@ -14,7 +15,7 @@ slice-aggregate-put-numbered c = search needs
 
 put-numbered-requires : tie.Need-put-numbered-requires
 unfolding placed
-put-numbered-requires c κs = rw (c .before .before .before .place .given .1) at (c .before .before .before .before .before .before .pre)
+put-numbered-requires c κs = let room = rw (c .before .before .before .place .given .1) at (c .before .before .before .before .before .before .pre) in record { fits = omega (arith, room) }
 
 enum-known-place-2 : tie.Need-enum-known-place-2
 enum-known-place-2 c = search needs
@@ -24,7 +25,7 @@ slice-aggregate-put-numbered-2 c = search needs
 
 put-numbered-requires-2 : tie.Need-put-numbered-requires-2
 unfolding placed
-put-numbered-requires-2 c κs = rw (c .before .before .before .place2 .given .1) at (c .before .before .before .before .before .before .pre)
+put-numbered-requires-2 c κs = let room = rw (c .before .before .before .place2 .given .1) at (c .before .before .before .before .before .before .pre) in record { fits = omega (arith, room) }
 
 enum-known-place-3 : tie.Need-enum-known-place-3
 enum-known-place-3 c = search needs
@@ -34,7 +35,7 @@ slice-aggregate-put-numbered-3 c = search needs
 
 put-numbered-requires-3 : tie.Need-put-numbered-requires-3
 unfolding placed
-put-numbered-requires-3 c κs = rw (c .before .before .before .place3 .given .1) at (c .before .before .before .before .before .before .pre)
+put-numbered-requires-3 c κs = let room = rw (c .before .before .before .place3 .given .1) at (c .before .before .before .before .before .before .pre) in record { fits = omega (arith, room) }
 
 enum-told : tie.Need-enum-told
 enum-told c = search needs
