@@ -17,16 +17,17 @@ use Rattle.plain.specs.declared.size.Size.{Size}
 abbrev pub presentChains : Store → List Bool → ℕ → List (List Pair)
 presentChains s present n = presentOf present (pairsAt s) n
 
--- The bounds of seed i rise; how many pairs it has.
+-- The bounds of seed i rise, and lie in the arrays of the nodes.
 pub record Bounded (bounds : List ℕ) (i : ℕ) : Type 0 where
   pub few : i < 64
   pub rise : getD bounds i 0 ≤ getD bounds (i + 1) 0
   pub within : getD bounds (i + 1) 0 ≤ 1024
 
+-- How many pairs it has.
 abbrev pub countAt : List ℕ → ℕ → ℕ
 countAt bounds i = getD bounds (i + 1) 0 - getD bounds i 0
 
--- Its pairs lie in the arrays of the nodes.
+-- The arrays that hold its pairs, and its pairs.
 pub record Stored (qs ts bounds : List ℕ) (i : ℕ) : Type 0 where
   pub bounded : Bounded bounds i
   pub long-q : length qs ≡ 1024
