@@ -1,7 +1,7 @@
 -- `stretch::search::locate` meets its contract. Assumes nothing.
 use mathlib.Core.Path.{refl}
-use Rattle.tree.proofs.Meanings.{clash}
 use Rattle.stretch.proofs.Searches.{short-read, locate-accepted, locate-refused}
+use Rattle.answer.proofs.Denied.{denies}
 use borrow.Author.Needs.{needs}
 use Rattle.stretch.proofs.search.locate.Statement.{statement}
 use Rattle.stretch.proofs.search.locate.Tie as tie
@@ -22,7 +22,7 @@ returns : tie.Need-returns
 returns c = locate-accepted _ _ _ _ (c .before .before .before .read .ensures) _ (c .before .enum-told .given .1) (c .search .ensures)
 
 returns-2 : tie.Need-returns-2
-returns-2 c = locate-refused _ _ _ _ (c .before .before .read .ensures) _ (λ e. let f = (c .enum-told2 .given .1) in clash (cc)) refl
+returns-2 c = locate-refused _ _ _ _ (c .before .before .read .ensures) _ (λ e. denies (c .enum-told2 .given .1) e) refl
 
 pub locate-spec : {M : Type 1} → statement M
 locate-spec =

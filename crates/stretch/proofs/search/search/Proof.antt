@@ -1,9 +1,9 @@
 -- `stretch::search::search` meets its contract: one law for each way out. Assumes nothing.
 use mathlib.Core.Path.{refl}
 use native.Mathlib.Omega.{arith}
-use Rattle.tree.proofs.Meanings.{clash}
 use Rattle.stretch.proofs.Scans.{scan-inside, scan-counts}
 use Rattle.stretch.proofs.Searches.{search-disordered, search-few, search-wide, search-unread, search-other, search-found}
+use Rattle.answer.proofs.Denied.{denies}
 use borrow.Author.Needs.{needs}
 use Rattle.stretch.proofs.search.search.Statement.{statement}
 use Rattle.stretch.proofs.search.search.Tie as tie
@@ -78,7 +78,7 @@ returns-6 : tie.Need-returns-6
 returns-6 c =
     let read = c .before .before .before in
     let scan = read .before .before .before .before .before in
-    search-unread _ _ _ _ _ (scan .scan-to .ensures) _ (read .read .ensures) (scan .before .before .before .pre) (λ e. let f = c .before .enum-told2 .given .1 in clash (cc)) (c .nowhere5 .ensures)
+    search-unread _ _ _ _ _ (scan .scan-to .ensures) _ (read .read .ensures) (scan .before .before .before .pre) (λ e. denies (c .before .enum-told2 .given .1) e) (c .nowhere5 .ensures)
 
 pub search-spec : {M : Type 1} → statement M
 search-spec =
