@@ -1,4 +1,5 @@
 -- The numbered grounds for turning a call down (document 01), and what an answer says by them. Assumes nothing.
+use mathlib.Core.Bool.{Bool, true, false}
 use Prim.Native.Nat.{ℕ}
 use Rattle.answer.specs.declared.Ground.{Ground}
 use Rattle.answer.specs.declared.Ground.the-variants.{TextLength, UnknownByte, ClosesNothing, NeverClosed, DeckLayout, PairIndex, PairReachedTwice, PairNeverReached, NumberNotGiven, PresenceAsAsked, ScoreRange, NoPairs, SeedLimit, PairLimit, OutsideTree, NotRising, AncestryDiffers, LastNotAncestor, BorderUnpaired, ChangeLimit, ScratchShort, OutputShort}
@@ -61,3 +62,12 @@ pub data Said : Type 0 where
 abbrev pub said : Answer → Said
 said Accepted = accepted
 said (Refused ground place) = refused (numberOf ground) place
+
+-- A ground is given if its condition holds; otherwise the later ones are looked at.
+abbrev pub given : Bool → Ground → Place → Answer → Answer
+given true g p later = Refused g p
+given false g p later = later
+
+abbrev pub unless : Answer → Answer → Answer
+unless Accepted later = later
+unless (Refused g p) later = Refused g p

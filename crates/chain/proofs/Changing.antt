@@ -11,7 +11,8 @@ use Rattle.answer.specs.declared.Ground.{Ground}
 use Rattle.answer.specs.declared.Place.{Place}
 use Rattle.answer.specs.declared.Answer.{Answer}
 use Rattle.answer.specs.declared.Answer.the-variants.{Accepted, Refused}
-use Rattle.chain.specs.State.{State, decide, noRow, rowOf, withRow, withScore, withPresence, changed, givenOut, inRange, rescoreAnswer, rescore, moveAnswer, moveTo}
+use Rattle.chain.specs.State.{State, decide, noRow, rowOf, withRow, withScore, withPresence, changed, givenOut, rescoreAnswer, rescore, moveAnswer, moveTo}
+use Rattle.dealing.specs.Seeds.{inRange}
 use Rattle.chain.specs.View.{rowAt, table, view, Sound, Does}
 use Rattle.chain.specs.declared.Session.{Session}
 use Rattle.chain.proofs.Judging.{given-out, Rescorable, rescorable, Movable, movable}

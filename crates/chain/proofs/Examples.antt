@@ -18,8 +18,10 @@ use Rattle.seed.specs.declared.Pair.{Pair}
 use Rattle.optimum.specs.Key.{inMask, empty, _⊕_, noBetter, better}
 use Rattle.optimum.specs.Best as optimum
 use Rattle.best.specs.Best.{keyOf, bestOf}
-use Rattle.chain.specs.State.{Row, State, rowOf, withRow, pairCount, givenOut, inRange, countAnswer, rescoreAnswer, rescore, moveAnswer, moveTo, withdraw, limitAnswer, addAnswer, add}
-use Rattle.chain.specs.Opening.{bothRead, opening}
+use Rattle.chain.specs.State.{Row, State, rowOf, withRow, pairCount, givenOut, countAnswer, rescoreAnswer, rescore, moveAnswer, moveTo, withdraw, limitAnswer, addAnswer, add}
+use Rattle.dealing.specs.Seeds.{inRange}
+use Rattle.chain.specs.Opening.{opening}
+use Rattle.dealing.specs.Texts.{bothRead}
 use Rattle.chain.specs.Looking.{pairsIn, scoreIn, presentIn, bestChain, areasOf}
 
 -- A is `(.(.)).` and B is `(.)(.)`; A is Q and B is T.

@@ -31,7 +31,9 @@ use Rattle.best.specs.Best.{scratchNeeded, bestOf}
 use Rattle.best.specs.declared.Best.{Best}
 use Rattle.plain.specs.Plain.{plainOf, writtenOf}
 use Rattle.plain.specs.declared.Written.{Written}
-use Rattle.chain.specs.State.{State, decide, given, unless, rowOf, pairCount, givenOut, inRange, countAnswer, rescoreAnswer, rescore, moveAnswer, moveTo, limitAnswer, addAnswer, add}
+use Rattle.chain.specs.State.{State, decide, rowOf, pairCount, givenOut, countAnswer, rescoreAnswer, rescore, moveAnswer, moveTo, limitAnswer, addAnswer, add}
+use Rattle.answer.specs.Answer.{given, unless}
+use Rattle.dealing.specs.Seeds.{inRange}
 use Rattle.chain.specs.Looking.{bestChain, areasOf, listedIf, deckRows}
 use Rattle.chain.specs.Grounds.{Ground, holds, fails, _then_, earlier, later, Decides, GivenOut, InRange, CountSays, RescoreSays, MoveSays, nextNumber, AddSays, ChainSays, AreasSay, WriteSays}
 use Rattle.chain.proofs.Judging.{clash}

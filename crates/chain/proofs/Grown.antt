@@ -23,12 +23,15 @@ use Rattle.seed.specs.declared.Pair.{Pair}
 use Rattle.seed.specs.declared.Store.{Store}
 use Rattle.seed.proofs.PairLists.{count-first, count-most}
 use Rattle.judge.proofs.Grounds.{accepts-seeds}
-use Rattle.chain.specs.State.{Row, unless, newRow, pairCount, inRange, countAnswer, limitAnswer, addAnswer, add, numberGiven}
+use Rattle.chain.specs.State.{Row, newRow, pairCount, countAnswer, limitAnswer, addAnswer, add, numberGiven}
+use Rattle.answer.specs.Answer.{unless}
+use Rattle.dealing.specs.Seeds.{inRange}
 use Rattle.chain.specs.Storing.{withSeed, Room}
 use Rattle.seed.specs.Tab.{tab}
 use Rattle.chain.specs.View.{rowAt, table, view, Sound, Does}
 use Rattle.chain.specs.declared.Session.{Session}
-use Rattle.chain.proofs.Judging.{Addable, addable, not-refused, count-room}
+use Rattle.chain.proofs.Judging.{Addable, addable, count-room}
+use Rattle.answer.proofs.Given.{not-refused, unless-refused}
 use Rattle.seed.proofs.Tabs.{tab-more}
 use Rattle.chain.proofs.Tables.{set-keeps, table-length}
 use Rattle.chain.proofs.Storing.{pairs-kept, pairs-new, laid-new}
@@ -70,10 +73,6 @@ table-count s h = count-below s h (s .seeds) (omega arith) ∙ h .kept .laid .la
 pub by-fields : (s : Session) (ps : List Pair) (z : ℤ) → Sound s → addAnswer (view s) ps z ≡ unless (limitAnswer (s .seeds) (s .store .pairs) (length ps) z) (unless (judgeOf (leavesOf (s .q)) (leavesOf (s .t)) ps (s .seeds + 1)) (countAnswer (s .changes)))
 unfolding addAnswer
 by-fields s ps z h = rw (table-length s, table-count s h)
-
-pub unless-refused : (a later : Answer) → (a ≡ Accepted → ⊥) → unless a later ≡ a
-unless-refused Accepted later h = absurd (h refl)
-unless-refused (Refused g p) later h = refl
 
 -- The answer, in each case of the code.
 module _ (s : Session) (ps : List Pair) (z : ℤ) (h : Sound s) (n : ℕ) (count : n ≡ length ps) (a : Answer) (is-a : a ≡ limitAnswer (s .seeds) (s .store .pairs) n z) where

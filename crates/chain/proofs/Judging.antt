@@ -1,24 +1,20 @@
 -- What the judges of plain numbers answer, and what an accepted call knows. Assumes nothing.
-use mathlib.Core.Path.{_≡_, refl, sym, ap, _∙_}
+use mathlib.Core.Path.{_≡_, refl}
 use mathlib.Core.Bool.{Bool, true, false, not, _&&_, Bool·beq}
 use Prim.Native.Nat.{ℕ, _+_, _≤_, _<_}
 use native.Mathlib.Omega.{arith}
 use lib.IntN.{ℤ}
 use lib.Dec.{leb}
 use borrow.Author.Tests.{leb-true, leb-false, ltb-false, eqb-false, not-false}
-use Rattle.answer.specs.declared.Ground.{Ground}
-use Rattle.answer.specs.declared.Place.{Place}
-use Rattle.answer.specs.declared.Answer.{Answer}
-use Rattle.answer.specs.declared.Answer.the-variants.{Accepted, Refused}
-use Rattle.chain.specs.State.{given, unless, givenOut, inRange, countAnswer, rescoreAnswer, moveAnswer, limitAnswer}
+use Rattle.answer.proofs.Given.{not-given}
+use Rattle.answer.specs.declared.Answer.the-variants.{Accepted}
+use Rattle.chain.specs.State.{givenOut, countAnswer, rescoreAnswer, moveAnswer, limitAnswer}
+use Rattle.answer.specs.Answer.{given}
+use Rattle.dealing.specs.Seeds.{inRange}
 
 -- Two answers are never equal if one accepts and the other refuses.
 pub clash : {A : Type 0} → _≡_ {A = ℕ} 0 1 → A
 clash e = absurd (omega arith)
-
--- A test that a call answered.
-pub tested : {r b x : Bool} → r ≡ b → not r ≡ x → not b ≡ x
-tested e t = ap not (sym e) ∙ t
 
 pub beq-true : (b : Bool) → b ≡ Bool·beq true b
 beq-true true = refl
@@ -35,15 +31,6 @@ and-left false b e = e
 pub and-right : (a b : Bool) → (a && b) ≡ true → b ≡ true
 and-right true b e = e
 and-right false b e = clash (cc)
-
--- An accepted answer passed its first ground.
-pub not-given : (b : Bool) (g : Ground) (p : Place) (later : Answer) → given b g p later ≡ Accepted → (b ≡ false) × (later ≡ Accepted)
-not-given true g p later e = clash (cc)
-not-given false g p later e = (refl, e)
-
-pub not-refused : (a later : Answer) → unless a later ≡ Accepted → (a ≡ Accepted) × (later ≡ Accepted)
-not-refused Accepted later e = (refl, e)
-not-refused (Refused g p) later e = clash (cc)
 
 -- A seed number that was given out.
 pub record Given (seeds k : ℕ) : Type 0 where

@@ -3,7 +3,6 @@ pub mod Tables
 pub mod Changing
 pub mod Storing
 pub mod Grown
-pub mod Opened
 pub mod Dealt
 pub mod DeckOpened
 pub mod Looks

@@ -24,13 +24,17 @@ use Rattle.deck.specs.Deck.{DeckRow, chainsOf}
 use Rattle.deck.specs.Handed.{answerOf, rowsIn}
 use Rattle.deck.proofs.Grounds as decks
 use Rattle.deck.proofs.Accepted.{source, storable}
-use Rattle.chain.specs.State.{State, given, unless, pairCount, changed, inRange, countAnswer, limitAnswer, addAnswer}
-use Rattle.chain.specs.Opening.{inT, bothOf, bothRead, opening, seedAnswer, seedsAnswer, presentRow, deckAnswer, onDeck, deckOpening}
+use Rattle.chain.specs.State.{State, pairCount, changed, countAnswer, limitAnswer, addAnswer}
+use Rattle.answer.specs.Answer.{given, unless}
+use Rattle.dealing.specs.Seeds.{inRange}
+use Rattle.chain.specs.Opening.{opening, presentRow, deckAnswer, onDeck, deckOpening}
+use Rattle.dealing.specs.Texts.{inT, bothOf, bothRead}
+use Rattle.dealing.specs.Seeds.{seedAnswer, seedsAnswer}
 use Rattle.chain.specs.Grounds.{Decides, nextNumber, OfT, OpenSays, SeedsSay, DeckSays}
 use Rattle.chain.specs.Grounds.OfT.{byte, none}
 use Rattle.chain.proofs.Judging.{clash}
 use Rattle.chain.proofs.Grown.{count-more}
-use Rattle.chain.proofs.Opened.{are-trees}
+use Rattle.dealing.proofs.BothRead.{are-trees}
 use Rattle.chain.proofs.Grounds.{in-order, add-answer-decides}
 
 -- The two texts.

@@ -9,7 +9,8 @@ use Rattle.answer.specs.declared.Answer.{Answer}
 use Rattle.answer.specs.declared.Answer.the-variants.{Accepted}
 use Rattle.seed.specs.Tab.{tab}
 use Rattle.seed.specs.Store.{pairsAt, Kept}
-use Rattle.chain.specs.State.{Row, State, Outcome, inRange}
+use Rattle.chain.specs.State.{Row, State, Outcome}
+use Rattle.dealing.specs.Seeds.{inRange}
 use Rattle.chain.specs.declared.Session.{Session}
 
 -- The row of the seed at place i, which has number i + 1.

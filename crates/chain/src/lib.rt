@@ -1,6 +1,5 @@
 // A session on two structures: seeds are added, withdrawn, brought back and rescored, and the best chain of those present is worked out.
 mod adding;
-mod deck_seeds;
 mod limits;
 mod opening;
 mod store;
@@ -12,13 +11,13 @@ use answer::Ground;
 use answer::Place;
 use area::Listed;
 use best::Best;
-use deck_seeds::judge_seeds;
-use deck_seeds::session_with;
+use dealing::seeds::judge_seeds;
+use dealing::texts::read_both;
 use limits::given_out;
 use limits::judge_move;
 use limits::judge_rescore;
-use opening::read_both;
 use opening::session_on;
+use opening::session_with;
 use plain::Written;
 use seed::Store;
 use seed::pair_count;

@@ -2,6 +2,7 @@
 use answer::Answer;
 use answer::Ground;
 use answer::Place;
+use dealing::seeds::in_range;
 ghost use mathlib.Core.Path.{_≡_};
 ghost use mathlib.Core.Bool.{Bool·beq};
 ghost use mathlib.Core.Bool.{false};
@@ -9,7 +10,7 @@ ghost use Prim.Native.Nat.{_-_, _≤_};
 ghost use lib.ListN.{getD};
 ghost use Rattle.answer.specs.declared.Place.the-variants.{Seed};
 ghost use Rattle.answer.specs.declared.Answer.the-variants.{Refused};
-ghost use Rattle.chain.specs.State.{givenOut, inRange, countAnswer, rescoreAnswer, moveAnswer, limitAnswer};
+ghost use Rattle.chain.specs.State.{givenOut, countAnswer, rescoreAnswer, moveAnswer, limitAnswer};
 
 // Whether the number is one of 1 to seeds.
 pub fn given_out(seeds: usize, number: usize) -> bool
@@ -19,15 +20,6 @@ pub fn given_out(seeds: usize, number: usize) -> bool
         return false;
     }
     number <= seeds
-}
-
-pub fn in_range(score: i32) -> bool
-    ensures { λ r. ⌜ r ≡ inRange score ⌝ }
-{
-    if -1000000 <= score {
-        return score <= 1000000;
-    }
-    false
 }
 
 fn same(a: bool, b: bool) -> bool

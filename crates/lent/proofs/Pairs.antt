@@ -20,7 +20,9 @@ use Rattle.answer.specs.declared.Place.the-variants.{Seed}
 use Rattle.tree.proofs.Leaves.{lt-or-le}
 use Rattle.seed.specs.Pairs.{pairOf, pairsOf}
 use Rattle.seed.specs.declared.Pair.{Pair}
-use Rattle.chain.specs.State.{State, decide, given, unless, inRange, limitAnswer, addAnswer, add}
+use Rattle.chain.specs.State.{State, decide, limitAnswer, addAnswer, add}
+use Rattle.answer.specs.Answer.{given, unless}
+use Rattle.dealing.specs.Seeds.{inRange}
 use Rattle.lent.specs.Listing.{noNodes, withPair, withPairs, heldIn, Filled}
 use Rattle.lent.specs.declared.listing.Nodes.{Nodes}
 

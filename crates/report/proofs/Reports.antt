@@ -17,7 +17,8 @@ use Rattle.answer.specs.declared.Answer.the-variants.{Accepted, Refused}
 use Rattle.seed.proofs.Tabs.{length-tab}
 use Rattle.best.specs.Best.{scratchNeeded, bestOf, scratchAfter}
 use Rattle.best.specs.declared.Best.{Best}
-use Rattle.chain.specs.State.{State, given}
+use Rattle.chain.specs.State.{State}
+use Rattle.answer.specs.Answer.{given}
 use Rattle.chain.specs.View.{view}
 use Rattle.chain.specs.Opening.{deckOpening, Opens}
 use Rattle.chain.specs.Looking.{bestChain, Chains}

@@ -10,7 +10,8 @@ use Rattle.answer.specs.declared.Place.the-variants.{Nothing}
 use Rattle.answer.specs.declared.Answer.{Answer}
 use Rattle.answer.specs.declared.Answer.the-variants.{Accepted, Refused}
 use Rattle.best.specs.Best.{scratchNeeded}
-use Rattle.chain.specs.State.{State, Outcome, given}
+use Rattle.chain.specs.State.{State, Outcome}
+use Rattle.answer.specs.Answer.{given}
 use Rattle.chain.specs.Opening.{deckOpening}
 use Rattle.chain.specs.Looking.{bestChain}
 use Rattle.lines.specs.Lines.{resultLines, refusalLine}

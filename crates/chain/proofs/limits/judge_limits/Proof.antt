@@ -4,7 +4,7 @@ use native.Mathlib.Omega.{arith}
 use mir.Facts.{toZ-ofZ}
 use borrow.Author.Tests.{eq-eqb, ne-eqb, le-leb, lt-leb, lt-ltb, le-ltb}
 use Rattle.chain.specs.State.{limitAnswer}
-use Rattle.chain.proofs.Judging.{tested}
+use Rattle.answer.proofs.Given.{tested}
 use borrow.Author.Needs.{needs}
 use Rattle.chain.proofs.limits.judge_limits.Statement.{statement}
 use Rattle.chain.proofs.limits.judge_limits.Tie as tie

@@ -2,7 +2,8 @@
 use mathlib.Core.Path.{sym, _∙_}
 use native.Mathlib.Omega.{arith}
 use Rattle.chain.specs.State.{moveAnswer}
-use Rattle.chain.proofs.Judging.{tested, given-out}
+use Rattle.chain.proofs.Judging.{given-out}
+use Rattle.answer.proofs.Given.{tested}
 use borrow.Author.Needs.{needs}
 use Rattle.chain.proofs.limits.judge_move.Statement.{statement}
 use Rattle.chain.proofs.limits.judge_move.Tie as tie

@@ -1,7 +1,7 @@
 -- `chain::limits::judge_rescore` meets its contract. Assumes nothing.
 use mir.Facts.{toZ-ofZ}
 use Rattle.chain.specs.State.{rescoreAnswer}
-use Rattle.chain.proofs.Judging.{tested}
+use Rattle.answer.proofs.Given.{tested}
 use borrow.Author.Needs.{needs}
 use Rattle.chain.proofs.limits.judge_rescore.Statement.{statement}
 use Rattle.chain.proofs.limits.judge_rescore.Tie as tie

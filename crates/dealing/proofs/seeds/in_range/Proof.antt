@@ -1,8 +1,8 @@
--- `chain::limits::in_range` meets its contract. Assumes nothing.
+-- `dealing::seeds::in_range` meets its contract. Assumes nothing.
 use mir.Facts.{toZ-ofZ}
-use Rattle.chain.specs.State.{inRange}
-use Rattle.chain.proofs.limits.in_range.Statement.{statement}
-use Rattle.chain.proofs.limits.in_range.Tie as tie
+use Rattle.dealing.specs.Seeds.{inRange}
+use Rattle.dealing.proofs.seeds.in_range.Statement.{statement}
+use Rattle.dealing.proofs.seeds.in_range.Tie as tie
 
 returns : tie.Need-returns
 unfolding inRange
