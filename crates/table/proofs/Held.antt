@@ -1,0 +1,21 @@
+-- Rows that hold seeds, with one row more and with another row at one place.
+use mathlib.Core.Path.{_≡_}
+use mathlib.Core.List.{List, [], _∷_, _++_}
+use Prim.Native.Nat.{ℕ, zero, suc, _<_}
+use native.Mathlib.Omega.{arith}
+use lib.ListN.{length, getD, set}
+use Rattle.table.specs.Rows.{Row, noRow, Holds, AllHold}
+
+module _ (Q T : List ℕ) where
+  pub all-more : (rows : List Row) (r : Row) → AllHold Q T rows → Holds Q T r → AllHold Q T (rows ++ r ∷ [])
+  all-more [] r h k zero l = k
+  all-more [] r h k (suc i) l = absurd (omega arith)
+  all-more (x ∷ rows) r h k zero l = h zero (omega arith)
+  all-more (x ∷ rows) r h k (suc i) l = all-more rows r (λ j m. h (suc j) (omega arith)) k i (omega arith)
+
+  pub all-set : (rows : List Row) (k : ℕ) (r : Row) → AllHold Q T rows → (k < length rows → Holds Q T r) → AllHold Q T (set rows k r)
+  all-set [] k r h new i l = absurd (omega arith)
+  all-set (x ∷ rows) zero r h new zero l = new (omega arith)
+  all-set (x ∷ rows) zero r h new (suc i) l = h (suc i) l
+  all-set (x ∷ rows) (suc k) r h new zero l = h zero (omega arith)
+  all-set (x ∷ rows) (suc k) r h new (suc i) l = all-set rows k r (λ j m. h (suc j) (omega arith)) (λ m. new (omega arith)) i (omega arith)
