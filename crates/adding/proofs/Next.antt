@@ -75,7 +75,6 @@ module _ {Q T : List ℕ} (tree-q : Nested Q) (tree-t : Nested T) (rows : List R
       let w = limits-kept (length rows) (pairCount rows) (length ps) z (a .0) in
       record {
         ranged = w .ranged;
-        some = w .some;
         seed-room = w .seed-room;
         pair-room = w .pair-room;
         seed = accepts-seeds tree-q tree-t ps (length rows + 1) (w .some) .0 (a .1);
@@ -85,8 +84,8 @@ module _ {Q T : List ℕ} (tree-q : Nested Q) (tree-t : Nested T) (rows : List R
   unfolding nextAnswer
   adds w =
       rw (
-        keeps-limits (length rows) (pairCount rows) (length ps) z record { ranged = w .ranged; some = w .some; seed-room = w .seed-room; pair-room = w .pair-room },
-        accepts-seeds tree-q tree-t ps (length rows + 1) (w .some) .1 (w .seed),
+        keeps-limits (length rows) (pairCount rows) (length ps) z record { ranged = w .ranged; some = w .seed .some; seed-room = w .seed-room; pair-room = w .pair-room },
+        accepts-seeds tree-q tree-t ps (length rows + 1) (w .seed .some) .1 (w .seed),
       )
 
   pub next-exactly : (nextAnswer Q T rows ps z ≡ Accepted) ↔ Addable Q T rows ps z
@@ -133,7 +132,7 @@ module _ (q t : Tree) (table : Table) (qs ts : List ℕ) (z : ℤ) (h : Kept q t
         let w = known in
         record {
           laid = h .laid;
-          some = omega (arith, w .some);
+          some = omega (arith, w .seed .some);
           even = omega arith;
           seed-room = omega (arith, w .seed-room, rows-length table);
           pair-room = omega (arith, w .pair-room, rows-count table (h .laid));
@@ -153,6 +152,6 @@ module _ (q t : Tree) (table : Table) (qs ts : List ℕ) (z : ℤ) (h : Kept q t
             is-q = h .is-q;
             is-t = h .is-t;
             laid = laid-new table (take n qs) (take n ts) z add-room;
-            each = rw rows (all-more (leavesOf q) (leavesOf t) (rowsOf table) (newRow (pairsOf qs ts) z) (h .each) record { some = known .some; seed = known .seed; ranged = known .ranged });
+            each = rw rows (all-more (leavesOf q) (leavesOf t) (rowsOf table) (newRow (pairsOf qs ts) z) (h .each) record { seed = known .seed; ranged = known .ranged });
           };
         }

@@ -42,7 +42,6 @@ pub record Grows (q t : Tree) (table : Table) (ps : List Pair) (z : ℤ) (answer
 -- A list that is a seed of two trees and keeps the limits of a table with these rows.
 pub record Addable (Q T : List ℕ) (rows : List Row) (ps : List Pair) (z : ℤ) : Type 0 where
   pub ranged : inRange z ≡ true
-  pub some : 1 ≤ length ps
   pub seed-room : length rows < 64
   pub pair-room : pairCount rows + length ps ≤ 1024
   pub seed : seed.Seed Q T ps

@@ -42,10 +42,7 @@ withScore r z = record { pairs = r .pairs; score = z; present = r .present }
 abbrev pub withPresence : Row → Bool → Row
 withPresence r b = record { pairs = r .pairs; score = r .score; present = b }
 
--- The pairs of each row, and how many they are in all, withdrawn seeds included.
-abbrev pub pairsOfRow : Row → List Pair
-pairsOfRow r = r .pairs
-
+-- How many pairs the rows have in all, withdrawn seeds included.
 unfoldable pub pairCount : List Row → ℕ
 pairCount [] = 0
 pairCount (r ∷ rs) = length (r .pairs) + pairCount rs
@@ -65,7 +62,6 @@ inRange z = leZ (negsuc 999999) z && leZ z (pos 1000000)
 
 -- A row that holds a seed of two trees, with a score in range.
 pub record Holds (Q T : List ℕ) (r : Row) : Type 0 where
-  pub some : 0 < length (r .pairs)
   pub seed : Seed Q T (r .pairs)
   pub ranged : inRange (r .score) ≡ true
 
