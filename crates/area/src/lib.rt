@@ -6,16 +6,20 @@ use answer::Ground;
 use answer::Place;
 use seed::pair_count;
 use seed::side;
+use table::Table;
+use table::nodes_of;
 use tree::Tree;
 ghost use mathlib.Core.Path.{_≡_};
 ghost use mathlib.Core.List.{[], _∷_};
 ghost use Prim.Native.Nat.{_+_, _*_, _≤_, _<_};
-ghost use lib.ListN.{length};
+ghost use lib.ListN.{length, getD};
 ghost use lib.Seq.{sets};
 ghost use Rattle.tree.specs.Reading.{leavesOf};
 ghost use Rattle.seed.specs.Pairs.{pairsOf, Held};
 ghost use Rattle.seed.specs.AreaList.{firstBelow, lastBelow, bytesOf};
 ghost use Rattle.seed.specs.AreaList as lists;
+ghost use Rattle.table.specs.Rows.{noRow};
+ghost use Rattle.table.specs.Table.{rowsOf, Kept};
 ghost use Rattle.area.specs.Gaps as gaps;
 ghost use Rattle.area.specs.Listed.{ListedRight};
 
@@ -209,8 +213,8 @@ fn list(g: &[usize], h: &[usize], out: &mut [u8]) -> Listed
     }
 }
 
-// Lists the open areas of a seed by rising a, four bytes each, and answers how many there are.
-pub fn areas(q: Tree, t: Tree, qs: &[u8], ts: &[u8], out: &mut [u8]) -> Listed
+// Lists the open areas of the seed of these q and t by rising a, four bytes each, and answers how many there are.
+fn areas_of<'a>(q: Tree, t: Tree, qs: &'a [u8], ts: &'a [u8], out: &mut [u8]) -> Listed
     requires { ⌜ Held q t (pairsOf (now qs) (now ts)) ⌝ }
     ensures { λ r. ⌜ ListedRight (lists.areas (leavesOf q) (leavesOf t) (pairsOf (now (qs .entry)) (now (ts .entry)))) (now (out .entry)) r (now (out .exit)) ⌝ }
 {
@@ -222,4 +226,20 @@ pub fn areas(q: Tree, t: Tree, qs: &[u8], ts: &[u8], out: &mut [u8]) -> Listed
     let g = gaps_of(&lq[..n], &qs[..k]);
     let h = gaps_of(&lt[..m], &ts[..k]);
     list(&g[..n], &h[..m], out)
+}
+
+// Lists the open areas of the seed at a place of a table, present or not: none if there is no such seed.
+pub fn areas(q: Tree, t: Tree, table: Table, at: usize, out: &mut [u8]) -> Listed
+    requires { ⌜ Kept q t table ⌝ }
+    ensures { λ r. ⌜ ListedRight (lists.areas (leavesOf q) (leavesOf t) (getD (rowsOf table) at noRow .pairs)) (now (out .entry)) r (now (out .exit)) ⌝ }
+{
+    if table.seeds <= at {
+        return Listed {
+            answer: Answer::Accepted,
+            count: 0,
+        };
+    }
+    let qs = nodes_of(&table.qs, &table.bounds, at);
+    let ts = nodes_of(&table.ts, &table.bounds, at);
+    areas_of(q, t, qs, ts, out)
 }

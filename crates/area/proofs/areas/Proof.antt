@@ -1,78 +1,41 @@
--- `area::areas` meets its contract. Assumes nothing.
-use mathlib.Core.Path.{sym}
+-- `area::areas` meets its contract.
+use Rattle.area.proofs.Placed.{listed-none, held-there, listed-there}
 use borrow.Author.Needs.{needs}
-use Rattle.tree.proofs.Trees.{tree-length}
-use Rattle.seed.proofs.Trees.{tree-within}
-use Rattle.seed.proofs.PairLists.{cut-first, cut-second}
-use Rattle.area.proofs.AreaParts.{leaves-few, pairs-few, filled-length, filled-within, filled-few, held-areas, listed-as}
 use Rattle.area.proofs.areas.Statement.{statement}
 use Rattle.area.proofs.areas.Tie as tie
 
-pair-count-requires : tie.Need-pair-count-requires
-pair-count-requires c κs = search needs
+returns : tie.Need-returns
+returns c = let start = c .before .before in listed-none (start .args .q) (start .args .t) (start .args .t3) _ _ (c .if1 .taken)
 
-array-share-prefix-lq : tie.Need-array-share-prefix-lq
-array-share-prefix-lq c = tree-within _ (c .before .before .before .before .before .before .pre .is-q)
+nodes-of-requires : tie.Need-nodes-of-requires
+nodes-of-requires c κs = search needs
 
-slice-aggregate-gaps-of : tie.Need-slice-aggregate-gaps-of
-slice-aggregate-gaps-of c = sym (tree-length _ (c .before .before .before .before .before .before .before .pre .is-q))
+nodes-of-requires-2 : tie.Need-nodes-of-requires-2
+nodes-of-requires-2 c κs = search needs
 
-slice-aggregate-gaps-of-2 : tie.Need-slice-aggregate-gaps-of-2
-slice-aggregate-gaps-of-2 c = cut-first _ _ (c .before .before .before .before .pair-count .ensures)
-
-gaps-of-requires : tie.Need-gaps-of-requires
-gaps-of-requires c κs = (leaves-few _ (c .before .before .before .before .before .before .before .before .pre .is-q), pairs-few _ _ _ _ (c .before .before .before .before .before .before .before .before .pre) _ (c .before .before .before .before .pair-count .ensures) .0)
-
-array-share-prefix-lt : tie.Need-array-share-prefix-lt
-array-share-prefix-lt c = tree-within _ (c .before .before .before .before .before .before .before .before .before .pre .is-t)
-
-slice-aggregate-gaps-of-3 : tie.Need-slice-aggregate-gaps-of-3
-slice-aggregate-gaps-of-3 c = sym (tree-length _ (c .before .before .before .before .before .before .before .before .before .before .pre .is-t))
-
-slice-aggregate-gaps-of-4 : tie.Need-slice-aggregate-gaps-of-4
-slice-aggregate-gaps-of-4 c = cut-second _ _ (c .before .before .before .before .before .before .before .pair-count .ensures)
-
-gaps-of-requires-2 : tie.Need-gaps-of-requires-2
-gaps-of-requires-2 c κs = (leaves-few _ (c .before .before .before .before .before .before .before .before .before .before .before .pre .is-t), pairs-few _ _ _ _ (c .before .before .before .before .before .before .before .before .before .before .before .pre) _ (c .before .before .before .before .before .before .before .pair-count .ensures) .1)
-
-array-share-prefix-g : tie.Need-array-share-prefix-g
-array-share-prefix-g c = filled-within _ (c .before .before .before .before .before .before .before .before .before .before .before .before .pre .is-q) _ _ (c .before .before .before .gaps-of .ensures)
-
-slice-aggregate-list : tie.Need-slice-aggregate-list
-slice-aggregate-list c = filled-length _ (c .before .before .before .before .before .before .before .before .before .before .before .before .before .pre .is-q) _ _ (c .before .before .before .before .gaps-of .ensures)
-
-array-share-prefix-h : tie.Need-array-share-prefix-h
-array-share-prefix-h c = filled-within _ (c .before .before .before .before .before .before .before .before .before .before .before .before .before .pre .is-t) _ _ (c .before .gaps-of2 .ensures)
-
-slice-aggregate-list-2 : tie.Need-slice-aggregate-list-2
-slice-aggregate-list-2 c = filled-length _ (c .before .before .before .before .before .before .before .before .before .before .before .before .before .before .pre .is-t) _ _ (c .before .before .gaps-of2 .ensures)
-
-list-requires : tie.Need-list-requires
-list-requires c κs = (filled-few _ (c .before .before .before .before .before .before .before .before .before .before .before .before .before .before .before .pre .is-q) _ _ (c .before .before .before .before .before .before .gaps-of .ensures), filled-few _ (c .before .before .before .before .before .before .before .before .before .before .before .before .before .before .before .pre .is-t) _ _ (c .before .before .before .gaps-of2 .ensures))
+areas-of-requires : tie.Need-areas-of-requires
+areas-of-requires c κs =
+    let first = c .before .before .before .before .before .before in
+    let start = first .before .before .before .before .before .before .before .before in
+    held-there _ _ _ _ (start .pre) (first .before .before .before .before .before .before .if1 .left) (first .nodes-of .ensures) (c .before .nodes-of2 .ensures)
 
 same-length : tie.Need-same-length
 same-length c = search needs
 
-returns : tie.Need-returns
-returns c = listed-as _ _ _ _ _ (held-areas _ _ _ _ (c .before .before .before .before .before .before .before .before .before .before .before .before .before .before .before .before .before .before .pre) _ (c .before .before .before .before .before .before .before .before .before .before .before .before .before .before .pair-count .ensures) _ _ (c .before .before .before .before .before .before .before .before .before .gaps-of .ensures) (c .before .before .before .before .before .before .gaps-of2 .ensures)) (c .before .before .list .ensures)
+returns-2 : tie.Need-returns-2
+returns-2 c =
+    let second = c .before .before .before .before in
+    let first = second .before .before .before .before .before in
+    let start = first .before .before .before .before .before .before .before .before in
+    listed-there _ _ _ _ (start .pre) (first .before .before .before .before .before .before .if1 .left) (first .nodes-of .ensures) (second .nodes-of2 .ensures) (c .before .before .areas-of .ensures)
 
 pub areas-spec : {M : Type 1} → statement M
 areas-spec =
     tie.close
     (tie.spec
-    pair-count-requires
-    array-share-prefix-lq
-    slice-aggregate-gaps-of
-    slice-aggregate-gaps-of-2
-    gaps-of-requires
-    array-share-prefix-lt
-    slice-aggregate-gaps-of-3
-    slice-aggregate-gaps-of-4
-    gaps-of-requires-2
-    array-share-prefix-g
-    slice-aggregate-list
-    array-share-prefix-h
-    slice-aggregate-list-2
-    list-requires
+    returns
+    nodes-of-requires
+    nodes-of-requires-2
+    areas-of-requires
     same-length
-    returns)
+    returns-2)
