@@ -1,69 +1,102 @@
--- The seeds of a deck, judged one after another. Assumes nothing.
-use mathlib.Core.Path.{_≡_, refl, sym, ap, ap₂, _∙_}
-use mathlib.Core.List.{List, _∷_}
+-- The seeds of a deck, judged one after another: turn by turn, and what they are if none is refused.
+use mathlib.Core.Path.{_≡_, refl, sym, ap, subst, _∙_}
+use mathlib.Core.Bool.{not}
+use mathlib.Core.List.{List, [], _∷_}
 use Prim.Native.Nat.{ℕ, zero, suc, _+_, _≤_, _<_}
-use native.Mathlib.Nat.{le-of-suc-le-suc, not-suc-le-zero}
 use native.Mathlib.Numerals.{add-one}
 use native.Mathlib.Omega.{arith}
 use lib.ListN.{length, getD, drop, drop-of-length-le}
 use lib.Seq.{drop-cons}
-use Rattle.answer.specs.declared.Answer.{Answer}
-use Rattle.answer.specs.declared.Answer.the-variants.{Accepted}
-use Rattle.seed.specs.Tab.{tab}
-use Rattle.seed.specs.Store.{bound, Laid}
-use Rattle.seed.specs.declared.Store.{Store}
-use Rattle.seed.proofs.Tabs.{length-tab, getD-tab}
-use Rattle.deck.specs.Deck.{DeckRow}
-use Rattle.deck.specs.Handed as deck
+use lib.IntN.{ℤ, pos}
+use borrow.Author.Tests.{not-false}
 use Rattle.answer.specs.Answer.{unless}
+use Rattle.answer.specs.declared.Ground.{Ground}
+use Rattle.answer.specs.declared.Place.{Place}
+use Rattle.answer.specs.declared.Answer.{Answer}
+use Rattle.answer.specs.declared.Answer.the-variants.{Accepted, Refused}
+use Rattle.answer.proofs.Denied.{denies}
+use Rattle.answer.proofs.Given.{not-given, not-refused, unless-refused}
+use Rattle.tree.specs.Nested.{Nested}
+use Rattle.tree.specs.Reading.{IsTree, leavesOf}
+use Rattle.tree.specs.declared.Tree.{Tree}
+use Rattle.tree.proofs.Trees.{tree-nested}
+use Rattle.seed.specs.Pairs.{pairsOf}
+use Rattle.judge.proofs.Grounds.{accepts-seeds}
+use Rattle.table.specs.Rows.{Row, newRow, noRow, inRange, AllHold}
+use Rattle.table.specs.Table.{nodesOf, pairsAt, rowAt, rowsOf, Laid, Kept}
+use Rattle.table.specs.declared.Table.{Table}
+use Rattle.table.proofs.Tables.{rows-length, row-there, pairs-some}
 use Rattle.dealing.specs.Seeds.{seedAnswer, seedsAnswer}
-use Rattle.answer.proofs.Given.{not-refused}
-use Rattle.answer.proofs.Given.{unless-refused}
-
--- The pairs of a stored seed stand in the store's arrays.
-module _ (s : Store) (n : ℕ) (h : Laid s n) (i : ℕ) (l : i < n) where
-  pub part-low : getD (s .bounds) i 0 ≤ getD (s .bounds) (i + 1) 0
-  unfolding bound
-  part-low = omega (arith, h .rising i l)
-
-  pub part-high : getD (s .bounds) (i + 1) 0 ≤ 1024
-  unfolding bound
-  part-high = omega (arith, h .within (i + 1) (omega arith), h .pairs)
 
 -- The loop over the seeds: those passed are accepted.
-module _ (Q T : List ℕ) (n : ℕ) (f : ℕ → DeckRow) where
-  abbrev pub Passed : ℕ → Type 0
-  Passed i = (i ≤ n) × (seedsAnswer Q T 1 (tab n f) ≡ seedsAnswer Q T (i + 1) (drop i (tab n f)))
+module _ (Q T : List ℕ) (table : Table) where
+  abbrev rows : List Row
+  rows = rowsOf table
+
+  pub record Passed (i : ℕ) : Type 0 where
+    pub few : i ≤ table .seeds
+    pub rest : seedsAnswer Q T 1 (rowsOf table) ≡ seedsAnswer Q T (i + 1) (drop i (rowsOf table))
 
   pub seeds-start : Passed 0
-  seeds-start = (omega arith, refl)
+  seeds-start = record { few = omega arith; rest = refl }
 
-  ahead : (i : ℕ) → i < n → drop i (tab n f) ≡ f i ∷ drop (i + 1) (tab n f)
-  ahead i l =
-      drop-cons (tab n f) i (f 0) (omega (arith, length-tab n f))
-      ∙ ap₂ (λ (x : DeckRow) (k : ℕ). x ∷ drop k (tab n f)) (getD-tab n f i (f 0) l) (sym (add-one i))
-
-  by-seed : (i : ℕ) → i < n → Passed i → (a : Answer) → a ≡ seedAnswer Q T (i + 1) (f i) → seedsAnswer Q T 1 (tab n f) ≡ unless a (seedsAnswer Q T (suc (i + 1)) (drop (i + 1) (tab n f)))
-  unfolding seedsAnswer
-  by-seed i l w a e = w .1 ∙ ap (seedsAnswer Q T (i + 1)) (ahead i l) ∙ ap (λ (x : Answer). unless x (seedsAnswer Q T (suc (i + 1)) (drop (i + 1) (tab n f)))) (sym e)
-
-  pub seeds-stop : (i : ℕ) → i < n → Passed i → (a : Answer) → a ≡ seedAnswer Q T (i + 1) (f i) → (a ≡ Accepted → ⊥) → a ≡ seedsAnswer Q T 1 (tab n f)
-  seeds-stop i l w a e no-seed = sym (by-seed i l w a e ∙ unless-refused a _ no-seed)
-
-  pub seeds-next : (i : ℕ) → i < n → Passed i → (a : Answer) → a ≡ seedAnswer Q T (i + 1) (f i) → a ≡ Accepted → Passed (i + 1)
-  seeds-next i l w a e ok =
-      let R : List DeckRow = drop (i + 1) (tab n f) in
-      (omega arith, by-seed i l w a e ∙ ap (λ (x : Answer). unless x (seedsAnswer Q T (suc (i + 1)) R)) ok ∙ ap (λ (k : ℕ). seedsAnswer Q T k R) (sym (add-one (i + 1))))
-
-  pub seeds-end : (i : ℕ) → n ≤ i → Passed i → Accepted ≡ seedsAnswer Q T 1 (tab n f)
+  pub seeds-end : (i : ℕ) → table .seeds ≤ i → Passed i → Accepted ≡ seedsAnswer Q T 1 (rowsOf table)
   unfolding seedsAnswer
   seeds-end i l w =
-      let past : length (tab n f) ≤ i = omega (arith, length-tab n f) in
-      sym (w .1 ∙ ap (seedsAnswer Q T (i + 1)) (drop-of-length-le (tab n f) past))
+      let past : length rows ≤ i = omega (arith, rows-length table) in
+      sym (w .rest ∙ ap (seedsAnswer Q T (i + 1)) (drop-of-length-le rows past))
 
--- Where all are accepted, each is.
-pub each : (Q T : List ℕ) (m n : ℕ) (f : ℕ → DeckRow) → seedsAnswer Q T m (tab n f) ≡ Accepted → (i : ℕ) → i < n → (k : ℕ) × (seedAnswer Q T k (f i) ≡ Accepted)
-unfolding seedsAnswer tab
-each Q T m zero f e i l = absurd (not-suc-le-zero l)
-each Q T m (suc n) f e zero l = (m, not-refused (seedAnswer Q T m (f 0)) _ e .0)
-each Q T m (suc n) f e (suc i) l = each Q T (suc m) n (λ j. f (suc j)) (not-refused (seedAnswer Q T m (f 0)) _ e .1) i (le-of-suc-le-suc l)
+  -- One turn: the answer of the seed at place i, from its nodes and its score.
+  module _ (i : ℕ) (l : i < table .seeds) (w : Passed i) {qs ts : List ℕ} (is-q : qs ≡ nodesOf (table .qs) (table .bounds) i) (is-t : ts ≡ nodesOf (table .ts) (table .bounds) i) {a : Answer} (e : a ≡ seedAnswer Q T (i + 1) (newRow (pairsOf qs ts) (getD (table .scores) i (pos 0)))) where
+    ahead : drop i rows ≡ rowAt table i ∷ drop (i + 1) rows
+    ahead =
+        drop-cons rows i noRow (omega (arith, rows-length table))
+        ∙ ap (λ (x : Row). x ∷ drop (suc i) rows) (row-there table i l)
+        ∙ ap (λ (k : ℕ). rowAt table i ∷ drop k rows) (sym (add-one i))
+
+    of-row : a ≡ seedAnswer Q T (i + 1) (rowAt table i)
+    unfolding rowAt pairsAt
+    of-row = rw (is-q, is-t) at e
+
+    by-seed : seedsAnswer Q T 1 rows ≡ unless a (seedsAnswer Q T (suc (i + 1)) (drop (i + 1) rows))
+    unfolding seedsAnswer
+    by-seed = w .rest ∙ ap (seedsAnswer Q T (i + 1)) ahead ∙ ap (λ (x : Answer). unless x (seedsAnswer Q T (suc (i + 1)) (drop (i + 1) rows))) (sym of-row)
+
+    pub seeds-stop : {g : Ground} {p : Place} → a ≡ Refused g p → a ≡ seedsAnswer Q T 1 (rowsOf table)
+    seeds-stop f = sym (by-seed ∙ unless-refused a _ (denies f))
+
+    pub seeds-next : a ≡ Accepted → Passed (i + 1)
+    seeds-next ok =
+        record {
+          few = omega arith;
+          rest =
+              by-seed
+              ∙ ap (λ (x : Answer). unless x (seedsAnswer Q T (suc (i + 1)) (drop (i + 1) rows))) ok
+              ∙ ap (λ (k : ℕ). seedsAnswer Q T k (drop (i + 1) rows)) (sym (add-one (i + 1)));
+        }
+
+-- Where none is refused, each is a seed with a score in range.
+module _ {Q T : List ℕ} (tree-q : Nested Q) (tree-t : Nested T) where
+  all-hold : (rows : List Row) (n : ℕ) → ((i : ℕ) → i < length rows → 0 < length (getD rows i noRow .pairs)) → seedsAnswer Q T n rows ≡ Accepted → AllHold Q T rows
+  unfolding seedsAnswer
+  all-hold [] n some e i l = absurd (omega arith)
+  all-hold (r ∷ rows) n some e zero l =
+      let first = not-refused (seedAnswer Q T n r) _ e .0 in
+      let passed = not-given (not (inRange (r .score))) _ _ _ first in
+      record {
+        seed = accepts-seeds tree-q tree-t (r .pairs) n (some 0 (omega arith)) .0 (passed .1);
+        ranged = not-false (inRange (r .score)) (passed .0);
+      }
+  all-hold (r ∷ rows) n some e (suc i) l =
+      all-hold rows (suc n) (λ j m. some (suc j) (omega arith)) (not-refused (seedAnswer Q T n r) _ e .1) i (omega arith)
+
+pub seeds-kept : (q t : Tree) (table : Table) → IsTree q → IsTree t → Laid table → seedsAnswer (leavesOf q) (leavesOf t) 1 (rowsOf table) ≡ Accepted → Kept q t table
+unfolding rowAt
+seeds-kept q t table is-q is-t h e =
+    record {
+      is-q = is-q;
+      is-t = is-t;
+      laid = h;
+      each = all-hold (tree-nested q is-q) (tree-nested t is-t) (rowsOf table) 1
+          (λ i l. let m : i < table .seeds = omega (arith, rows-length table) in rw (row-there table i m) (pairs-some table h i m)) e;
+    }

@@ -1,10 +1,14 @@
--- Rows that hold seeds, with one row more and with another row at one place.
+-- Rows that hold seeds, with one row more and with another row at one place; and the table with that row.
 use mathlib.Core.Path.{_≡_}
 use mathlib.Core.List.{List, [], _∷_, _++_}
 use Prim.Native.Nat.{ℕ, zero, suc, _<_}
 use native.Mathlib.Omega.{arith}
 use lib.ListN.{length, getD, set}
+use Rattle.tree.specs.Reading.{leavesOf}
+use Rattle.tree.specs.declared.Tree.{Tree}
 use Rattle.table.specs.Rows.{Row, noRow, Holds, AllHold}
+use Rattle.table.specs.Table.{rowsOf, Kept, HasRows}
+use Rattle.table.specs.declared.Table.{Table}
 
 module _ (Q T : List ℕ) where
   pub all-more : (rows : List Row) (r : Row) → AllHold Q T rows → Holds Q T r → AllHold Q T (rows ++ r ∷ [])
@@ -19,3 +23,7 @@ module _ (Q T : List ℕ) where
   all-set (x ∷ rows) zero r h new (suc i) l = h (suc i) l
   all-set (x ∷ rows) (suc k) r h new zero l = h zero (omega arith)
   all-set (x ∷ rows) (suc k) r h new (suc i) l = all-set rows k r (λ j m. h (suc j) (omega arith)) (λ m. new (omega arith)) i (omega arith)
+
+pub kept-set : (q t : Tree) (table next : Table) (k : ℕ) (row : Row) → Kept q t table → HasRows (set (rowsOf table) k row) next → (k < length (rowsOf table) → Holds (leavesOf q) (leavesOf t) row) → Kept q t next
+kept-set q t table next k row h n new =
+    record { is-q = h .is-q; is-t = h .is-t; laid = n .laid; each = rw (n .is) (all-set (leavesOf q) (leavesOf t) (rowsOf table) k row (h .each) new) }

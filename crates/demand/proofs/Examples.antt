@@ -1,0 +1,214 @@
+-- The starred examples of document 01, as rows of one list, computed from the definitions.
+use mathlib.Core.Path.{_≡_, refl, ap, _∙_}
+use mathlib.Core.Bool.{Bool, true, false}
+use mathlib.Core.List.{List, [], _∷_}
+use Prim.Native.Nat.{ℕ, suc}
+use lib.IntN.{ℤ, pos, negsuc}
+use Rattle.answer.specs.Answer.{Said, said}
+use Rattle.answer.specs.Answer.Said.{accepted, refused}
+use Rattle.answer.specs.declared.Place.the-variants.{Seed}
+use Rattle.tree.specs.Nested.{leaf}
+use Rattle.tree.specs.Reading as tree
+use Rattle.tree.specs.Reading.{leavesOf}
+use Rattle.seed.specs.Tab.{tab}
+use Rattle.seed.specs.Tests.{every, some, everyBelow, above, inside, nodeIn, nodesIn, risesFrom, rises, alikeAt, alikeTo, alike, rootOf, rooted, spans, children, paired, bordered}
+use Rattle.judge.specs.Judge.{judgeOf}
+use Rattle.seed.specs.AreaList.{side, level, fits, left, under, chainable, firstBelow, lastBelow, column, boxAt, begins, boxRow, boxes, areas, bytesOf}
+use Rattle.seed.specs.declared.Pair.{Pair}
+use Rattle.optimum.specs.Key.{inMask, empty, _⊕_, noBetter, better}
+use Rattle.optimum.specs.Best as optimum
+use Rattle.best.specs.Best.{keyOf, bestOf}
+use Rattle.chain.specs.State.{Row, State, rowOf, withRow, pairCount, givenOut, countAnswer, rescoreAnswer, rescore, moveAnswer, moveTo, withdraw, limitAnswer, addAnswer, add}
+use Rattle.dealing.specs.Seeds.{inRange}
+use Rattle.chain.specs.Opening.{opening}
+use Rattle.dealing.specs.Texts.{bothRead}
+use Rattle.chain.specs.Looking.{pairsIn, scoreIn, presentIn, bestChain, areasOf}
+
+-- A is `(.(.)).` and B is `(.)(.)`; A is Q and B is T.
+abbrev A : List ℕ
+A = 40 ∷ 46 ∷ 40 ∷ 46 ∷ 41 ∷ 41 ∷ 46 ∷ []
+
+abbrev B : List ℕ
+B = 40 ∷ 46 ∷ 41 ∷ 40 ∷ 46 ∷ 41 ∷ []
+
+opened : State
+opened = opening A B .state
+
+abbrev pair : ℕ → ℕ → Pair
+pair q t = record { q = q; t = t }
+
+abbrev one : ℕ → ℕ → List Pair
+one q t = pair q t ∷ []
+
+abbrev two : ℕ → ℕ → ℕ → ℕ → List Pair
+two q t u v = pair q t ∷ pair u v ∷ []
+
+abbrev adding : List Pair → Said
+adding ps = said (add opened ps (pos 0) .answer)
+
+with : State → List Pair → ℤ → State
+with s ps z = add s ps z .state
+
+-- The total and the numbers of the best chain.
+abbrev numbers : ℕ → List Bool → List ℕ
+numbers n [] = []
+numbers n (true ∷ bs) = n ∷ numbers (suc n) bs
+numbers n (false ∷ bs) = numbers (suc n) bs
+
+abbrev chain : State → List ℕ
+chain s = bestChain s 4096 .total ∷ numbers 1 (bestChain s 4096 .chain)
+
+abbrev holding : List Row → ℕ → State
+holding rows n = record { q = tree.treeOf (tree.first (tree.runs A)); t = tree.treeOf (tree.first (tree.runs B)); rows = rows; changes = n }
+
+abbrev in-row : List Pair → ℤ → Bool → Row
+in-row ps z b = record { pairs = ps; score = z; present = b }
+
+opened-is : opened ≡ holding [] 0
+unfolding opened opening bothRead tree.reading tree.badLength
+opened-is = refl
+
+-- The five seeds, one after another.
+first-added : with (holding ([]) 0) (one 2 1) (pos 3) ≡ holding (in-row (one 2 1) (pos 3) true ∷ []) 1
+unfolding with add addAnswer limitAnswer pairCount inRange countAnswer judgeOf every some everyBelow above inside nodeIn nodesIn risesFrom rises alikeAt alikeTo alike rootOf rooted spans children paired bordered leaf
+first-added = refl
+
+second-added : with (holding (in-row (one 2 1) (pos 3) true ∷ []) 1) (one 4 3) (pos 2) ≡ holding (in-row (one 2 1) (pos 3) true ∷ in-row (one 4 3) (pos 2) true ∷ []) 2
+unfolding with add addAnswer limitAnswer pairCount inRange countAnswer judgeOf every some everyBelow above inside nodeIn nodesIn risesFrom rises alikeAt alikeTo alike rootOf rooted spans children paired bordered leaf
+second-added = refl
+
+third-added : with (holding (in-row (one 2 1) (pos 3) true ∷ in-row (one 4 3) (pos 2) true ∷ []) 2) (one 1 0) (pos 1) ≡ holding (in-row (one 2 1) (pos 3) true ∷ in-row (one 4 3) (pos 2) true ∷ in-row (one 1 0) (pos 1) true ∷ []) 3
+unfolding with add addAnswer limitAnswer pairCount inRange countAnswer judgeOf every some everyBelow above inside nodeIn nodesIn risesFrom rises alikeAt alikeTo alike rootOf rooted spans children paired bordered leaf
+third-added = refl
+
+fourth-added : with (holding (in-row (one 2 1) (pos 3) true ∷ in-row (one 4 3) (pos 2) true ∷ in-row (one 1 0) (pos 1) true ∷ []) 3) (one 3 1) (pos 3) ≡ holding (in-row (one 2 1) (pos 3) true ∷ in-row (one 4 3) (pos 2) true ∷ in-row (one 1 0) (pos 1) true ∷ in-row (one 3 1) (pos 3) true ∷ []) 4
+unfolding with add addAnswer limitAnswer pairCount inRange countAnswer judgeOf every some everyBelow above inside nodeIn nodesIn risesFrom rises alikeAt alikeTo alike rootOf rooted spans children paired bordered leaf
+fourth-added = refl
+
+fifth-added : with (holding (in-row (one 2 1) (pos 3) true ∷ in-row (one 4 3) (pos 2) true ∷ in-row (one 1 0) (pos 1) true ∷ in-row (one 3 1) (pos 3) true ∷ []) 4) (one 0 2) (negsuc 0) ≡ holding (in-row (one 2 1) (pos 3) true ∷ in-row (one 4 3) (pos 2) true ∷ in-row (one 1 0) (pos 1) true ∷ in-row (one 3 1) (pos 3) true ∷ in-row (one 0 2) (negsuc 0) true ∷ []) 5
+unfolding with add addAnswer limitAnswer pairCount inRange countAnswer judgeOf every some everyBelow above inside nodeIn nodesIn risesFrom rises alikeAt alikeTo alike rootOf rooted spans children paired bordered leaf
+fifth-added = refl
+
+five : State
+five = with (with (with (with (with opened (one 2 1) (pos 3)) (one 4 3) (pos 2)) (one 1 0) (pos 1)) (one 3 1) (pos 3)) (one 0 2) (negsuc 0)
+
+abbrev rows-of-five : List Row
+rows-of-five = in-row (one 2 1) (pos 3) true ∷ in-row (one 4 3) (pos 2) true ∷ in-row (one 1 0) (pos 1) true ∷ in-row (one 3 1) (pos 3) true ∷ in-row (one 0 2) (negsuc 0) true ∷ []
+
+five-is : five ≡ holding rows-of-five 5
+unfolding five
+five-is =
+    ap (λ (s : State). with (with (with (with (with s (one 2 1) (pos 3)) (one 4 3) (pos 2)) (one 1 0) (pos 1)) (one 3 1) (pos 3)) (one 0 2) (negsuc 0)) opened-is
+    ∙ ap (λ (s : State). with (with (with (with s (one 4 3) (pos 2)) (one 1 0) (pos 1)) (one 3 1) (pos 3)) (one 0 2) (negsuc 0)) first-added
+    ∙ ap (λ (s : State). with (with (with s (one 1 0) (pos 1)) (one 3 1) (pos 3)) (one 0 2) (negsuc 0)) second-added
+    ∙ ap (λ (s : State). with (with s (one 3 1) (pos 3)) (one 0 2) (negsuc 0)) third-added
+    ∙ ap (λ (s : State). with s (one 0 2) (negsuc 0)) fourth-added
+    ∙ fifth-added
+
+-- Then seed 4 rescored to 4, then 2 withdrawn.
+rescored : State
+rescored = rescore five 4 (pos 4) .state
+
+abbrev rows-rescored : List Row
+rows-rescored = in-row (one 2 1) (pos 3) true ∷ in-row (one 4 3) (pos 2) true ∷ in-row (one 1 0) (pos 1) true ∷ in-row (one 3 1) (pos 4) true ∷ in-row (one 0 2) (negsuc 0) true ∷ []
+
+rescored-is : rescored ≡ holding rows-rescored 6
+unfolding rescored rescore rescoreAnswer givenOut inRange countAnswer rowOf withRow
+rescored-is = ap (λ (s : State). rescore s 4 (pos 4) .state) five-is
+
+withdrawn : State
+withdrawn = withdraw rescored 2 .state
+
+abbrev rows-withdrawn : List Row
+rows-withdrawn = in-row (one 2 1) (pos 3) true ∷ in-row (one 4 3) (pos 2) false ∷ in-row (one 1 0) (pos 1) true ∷ in-row (one 3 1) (pos 4) true ∷ in-row (one 0 2) (negsuc 0) true ∷ []
+
+withdrawn-is : withdrawn ≡ holding rows-withdrawn 7
+unfolding withdrawn moveTo moveAnswer givenOut countAnswer rowOf withRow
+withdrawn-is = ap (λ (s : State). withdraw s 2 .state) rescored-is
+
+-- What is shown of each example.
+data Shown : Type 0 where
+  says : Said → Shown
+  lists : List ℕ → Shown
+
+record Example : Type 0 where
+  got : Shown
+  wanted : Shown
+
+abbrev example : Shown → Shown → Example
+example x y = record { got = x; wanted = y }
+
+leaves-A : lists (leavesOf (opened .q)) ≡ lists (0 ∷ 1 ∷ 1 ∷ 0 ∷ 4 ∷ 0 ∷ [])
+leaves-A = ap (λ (s : State). lists (leavesOf (s .q))) opened-is
+
+leaves-B : lists (leavesOf (opened .t)) ≡ lists (0 ∷ 0 ∷ 2 ∷ 2 ∷ 0 ∷ [])
+leaves-B = ap (λ (s : State). lists (leavesOf (s .t))) opened-is
+
+border : says (adding (two 2 0 5 4)) ≡ says (refused 19 (Seed 1))
+unfolding add addAnswer limitAnswer pairCount inRange countAnswer judgeOf every some everyBelow above inside nodeIn nodesIn risesFrom rises alikeAt alikeTo alike rootOf rooted spans children paired bordered leaf
+border = ap (λ (s : State). says (said (add s (two 2 0 5 4) (pos 0) .answer))) opened-is
+
+ancestry : says (adding (two 0 0 1 1)) ≡ says (refused 17 (Seed 1))
+unfolding add addAnswer limitAnswer pairCount inRange countAnswer judgeOf every some everyBelow above inside nodeIn nodesIn risesFrom rises alikeAt alikeTo alike rootOf rooted spans children paired bordered leaf
+ancestry = ap (λ (s : State). says (said (add s (two 0 0 1 1) (pos 0) .answer))) opened-is
+
+root : says (adding (two 0 0 4 2)) ≡ says (refused 18 (Seed 1))
+unfolding add addAnswer limitAnswer pairCount inRange countAnswer judgeOf every some everyBelow above inside nodeIn nodesIn risesFrom rises alikeAt alikeTo alike rootOf rooted spans children paired bordered leaf
+root = ap (λ (s : State). says (said (add s (two 0 0 4 2) (pos 0) .answer))) opened-is
+
+seed : says (adding (two 1 0 3 1)) ≡ says accepted
+unfolding add addAnswer limitAnswer pairCount inRange countAnswer judgeOf every some everyBelow above inside nodeIn nodesIn risesFrom rises alikeAt alikeTo alike rootOf rooted spans children paired bordered leaf
+seed = ap (λ (s : State). says (said (add s (two 1 0 3 1) (pos 0) .answer))) opened-is
+
+listed : lists (bytesOf (areasOf (with opened (two 3 1 5 4) (pos 0)) 1)) ≡ lists (0 ∷ 2 ∷ 0 ∷ 0 ∷ 4 ∷ 4 ∷ 2 ∷ 3 ∷ [])
+unfolding with add addAnswer limitAnswer pairCount inRange countAnswer judgeOf every some everyBelow above inside nodeIn nodesIn risesFrom rises alikeAt alikeTo alike rootOf rooted spans children paired bordered leaf areas boxes boxRow begins boxAt column lastBelow firstBelow bytesOf fits level side rowOf
+listed = ap (λ (s : State). lists (bytesOf (areasOf (with s (two 3 1 5 4) (pos 0)) 1))) opened-is
+
+none : lists (chain opened) ≡ lists (0 ∷ [])
+unfolding bestChain bestOf keyOf optimum.best better noBetter _⊕_ empty inMask tab chainable left under fits level side every above leaf pairsIn scoreIn presentIn
+none = ap (λ (s : State). lists (chain s)) opened-is
+
+zero-score : lists (chain (with opened (one 2 1) (pos 0))) ≡ lists (0 ∷ [])
+unfolding with add addAnswer limitAnswer pairCount inRange countAnswer judgeOf every some everyBelow above inside nodeIn nodesIn risesFrom rises alikeAt alikeTo alike rootOf rooted spans children paired bordered leaf bestChain bestOf keyOf optimum.best better noBetter _⊕_ empty inMask tab chainable left under fits level side pairsIn scoreIn presentIn
+zero-score = ap (λ (s : State). lists (chain (with s (one 2 1) (pos 0)))) opened-is
+
+minus-one : lists (chain (with opened (one 2 1) (negsuc 0))) ≡ lists (0 ∷ [])
+unfolding with add addAnswer limitAnswer pairCount inRange countAnswer judgeOf every some everyBelow above inside nodeIn nodesIn risesFrom rises alikeAt alikeTo alike rootOf rooted spans children paired bordered leaf bestChain bestOf keyOf optimum.best better noBetter _⊕_ empty inMask tab chainable left under fits level side pairsIn scoreIn presentIn
+minus-one = ap (λ (s : State). lists (chain (with s (one 2 1) (negsuc 0)))) opened-is
+
+six : lists (chain five) ≡ lists (6 ∷ 1 ∷ 2 ∷ 3 ∷ [])
+unfolding bestChain bestOf keyOf optimum.best better noBetter _⊕_ empty inMask tab chainable left under fits level side every above leaf pairsIn scoreIn presentIn
+six = ap (λ (s : State). lists (chain s)) five-is
+
+seven : lists (chain rescored) ≡ lists (7 ∷ 2 ∷ 3 ∷ 4 ∷ [])
+unfolding bestChain bestOf keyOf optimum.best better noBetter _⊕_ empty inMask tab chainable left under fits level side every above leaf pairsIn scoreIn presentIn
+seven = ap (λ (s : State). lists (chain s)) rescored-is
+
+then-five : lists (chain withdrawn) ≡ lists (5 ∷ 3 ∷ 4 ∷ [])
+unfolding bestChain bestOf keyOf optimum.best better noBetter _⊕_ empty inMask tab chainable left under fits level side every above leaf pairsIn scoreIn presentIn
+then-five = ap (λ (s : State). lists (chain s)) withdrawn-is
+
+rows : List Example
+rows =
+    example (lists (leavesOf (opened .q))) (lists (0 ∷ 1 ∷ 1 ∷ 0 ∷ 4 ∷ 0 ∷ []))
+    ∷ example (lists (leavesOf (opened .t))) (lists (0 ∷ 0 ∷ 2 ∷ 2 ∷ 0 ∷ []))
+    ∷ example (says (adding (two 2 0 5 4))) (says (refused 19 (Seed 1)))
+    ∷ example (says (adding (two 0 0 1 1))) (says (refused 17 (Seed 1)))
+    ∷ example (says (adding (two 0 0 4 2))) (says (refused 18 (Seed 1)))
+    ∷ example (says (adding (two 1 0 3 1))) (says accepted)
+    ∷ example (lists (bytesOf (areasOf (with opened (two 3 1 5 4) (pos 0)) 1))) (lists (0 ∷ 2 ∷ 0 ∷ 0 ∷ 4 ∷ 4 ∷ 2 ∷ 3 ∷ []))
+    ∷ example (lists (chain opened)) (lists (0 ∷ []))
+    ∷ example (lists (chain (with opened (one 2 1) (pos 0)))) (lists (0 ∷ []))
+    ∷ example (lists (chain (with opened (one 2 1) (negsuc 0)))) (lists (0 ∷ []))
+    ∷ example (lists (chain five)) (lists (6 ∷ 1 ∷ 2 ∷ 3 ∷ []))
+    ∷ example (lists (chain rescored)) (lists (7 ∷ 2 ∷ 3 ∷ 4 ∷ []))
+    ∷ example (lists (chain withdrawn)) (lists (5 ∷ 3 ∷ 4 ∷ []))
+    ∷ []
+
+abbrev Hold : List Example → Type 0
+Hold [] = Unit {0}
+Hold (x ∷ xs) = (x .got ≡ x .wanted) × Hold xs
+
+examples : Hold rows
+unfolding rows
+examples = (leaves-A, (leaves-B, (border, (ancestry, (root, (seed, (listed, (none, (zero-score, (minus-one, (six, (seven, (then-five, tt)))))))))))))
