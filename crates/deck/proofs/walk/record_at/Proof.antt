@@ -1,4 +1,4 @@
--- `walk::record_at` meets its contract: the four bytes of a pair record lie inside the deck. Assumes nothing.
+-- `walk::record_at` meets its contract: the four bytes of a pair record lie inside the deck.
 use native.Mathlib.Omega.{arith}
 use Rattle.deck.specs.Deck.{pairRecord}
 use Rattle.deck.proofs.Records.{record-at}
