@@ -1,3 +1,3 @@
 pub mod BothRead
 pub mod Passing
-pub mod Dealt
+pub mod Dealing

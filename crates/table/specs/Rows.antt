@@ -42,7 +42,10 @@ withScore r z = record { pairs = r .pairs; score = z; present = r .present }
 abbrev pub withPresence : Row → Bool → Row
 withPresence r b = record { pairs = r .pairs; score = r .score; present = b }
 
--- How many pairs the rows have in all, withdrawn seeds included.
+-- The pairs of a row, and how many the rows have in all, withdrawn seeds included.
+abbrev pub pairsOfRow : Row → List Pair
+pairsOfRow r = r .pairs
+
 unfoldable pub pairCount : List Row → ℕ
 pairCount [] = 0
 pairCount (r ∷ rs) = length (r .pairs) + pairCount rs

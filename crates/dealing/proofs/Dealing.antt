@@ -22,7 +22,7 @@ use Rattle.deck.specs.Handed.{answerOf, rowsIn, Reads}
 use Rattle.deck.specs.declared.DeckRead.{DeckRead}
 use Rattle.dealing.specs.Texts.{bothRead}
 use Rattle.dealing.specs.Seeds.{seedsAnswer}
-use Rattle.dealing.specs.Deal.{deckAnswer, rowsIf, DealsOn, refusedWith, dealBy, dealAnswer, dealOf, AsDealt, Deals}
+use Rattle.dealing.specs.Deal.{deckAnswer, rowsIf, DealsOn, Deal, refusedWith, dealBy, dealAnswer, dealOf, AsDealt, Deals}
 use Rattle.dealing.specs.declared.Dealt.{Dealt}
 use Rattle.dealing.specs.declared.texts.TwoTrees.{TwoTrees}
 use Rattle.dealing.proofs.Passing.{seeds-kept}
@@ -31,6 +31,15 @@ use Rattle.dealing.proofs.Passing.{seeds-kept}
 pub kept-none : (q t : Tree) → IsTree q → IsTree t → Kept q t noSeeds
 kept-none q t is-q is-t =
     record { is-q = is-q; is-t = is-t; laid = laid-none; each = λ i l. absurd (omega (arith, ap length rows-none, l)) }
+
+-- A refusal, with the trees of "." and "." and no seeds.
+single-is : IsTree (treeOf single)
+single-is = record { run = single; few = omega arith; is = refl }
+
+pub refused-dealt : {a : Answer} {tree : Tree} {table : Table} → tree ≡ treeOf single → table ≡ noSeeds → AsDealt (refusedWith a) (record { answer = a; q = tree; t = tree; table = table })
+refused-dealt {a} e f =
+    rw (e, f)
+    (record { answers = refl; tree-q = refl; tree-t = refl; rows = rows-none; kept = kept-none (treeOf single) (treeOf single) single-is single-is })
 
 -- ---- a deck on two trees
 
@@ -66,12 +75,15 @@ module _ (q t : Tree) (d : List ℕ) (is-q : IsTree q) (is-t : IsTree t) where
 
 -- ---- two texts and a deck
 
+abbrev whole : List ℕ → List ℕ → List ℕ → Deal
+whole q t d = record { answer = Accepted; q = bothRead q t .q; t = bothRead q t .t; rows = rowsIn (deck.reading d) }
+
 module _ (q t d : List ℕ) {r : Dealt} {a : Answer} where
   deals-by : a ≡ dealAnswer q t d → (denied : a ≡ Accepted → ⊥) → AsDealt (refusedWith a) r → Deals q t d r
   unfolding dealOf
   deals-by e denied w = go (dealAnswer q t d) e
     where
-      go : (b : Answer) → a ≡ b → AsDealt (dealBy b _) r
+      go : (b : Answer) → a ≡ b → AsDealt (dealBy b (whole q t d)) r
       go Accepted f = absurd (denied f)
       go (Refused g p) f = subst (λ (y : Answer). AsDealt (refusedWith y) r) f w
 
