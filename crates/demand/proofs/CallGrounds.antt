@@ -16,15 +16,18 @@ use Rattle.plain.specs.Plain.{Writes}
 use Rattle.plain.specs.declared.Written.{Written}
 use Rattle.chain.specs.State.{State, Outcome, rescore, withdraw, bringBack, add}
 use Rattle.demand.specs.History.{Event, stateOf}
-use Rattle.chain.specs.View.{table, view, Does}
+use Rattle.chain.specs.View.{view, Does}
 use Rattle.chain.specs.Opening.{opening, deckOpening, Opens}
-use Rattle.chain.specs.Looking.{Chains, Lists, deckRows}
+use Rattle.table.specs.Rows.{presentRows}
+use Rattle.table.specs.Table.{rowsOf}
+use Rattle.chain.specs.Looking.{Chains, Lists, shownOf}
 use Rattle.demand.specs.Reached.{Reached}
-use Rattle.demand.specs.Grounds.{Decides, RescoreSays, MoveSays, AddSays, ChainSays, AreasSay, WriteSays, OpenSays, DeckSays}
+use Rattle.demand.specs.Grounds.{Decides, RescoreSays, MoveSays, AddSays, ChainSays, AreasSay, WriteSays, RowSays, OpenSays, DeckSays}
 use Rattle.chain.specs.declared.Session.{Session}
+use Rattle.chain.specs.declared.Shown.{Shown}
 use Rattle.demand.proofs.Histories.{reached}
 use Rattle.demand.proofs.Demand.{by-history}
-use Rattle.demand.proofs.Grounds.{rescore-decides, move-decides, add-decides, chain-decides, areas-decides, write-decides}
+use Rattle.demand.proofs.Grounds.{rescore-decides, move-decides, add-decides, chain-decides, areas-decides, write-decides, row-decides}
 use Rattle.demand.proofs.OpeningGrounds.{open-decides, deck-decides}
 
 pub open-grounds : (q t : List ℕ) {a : Answer} {s : Session} → Opens (opening q t) a s → Decides (OpenSays q t) a
@@ -52,6 +55,9 @@ module _ {o : Outcome} {s : Session} {h : List Event} (w : Reached o s h) where
         let kept = reached w .sound .kept in
         said-by-history (λ x. AddSays x ps z) (d .answers) (add-decides (view s) (tree-nested (s .q) (kept .is-q)) (tree-nested (s .t) (kept .is-t)) ps z)
 
+  pub row-grounds : (k : ℕ) {r : Shown} → r ≡ shownOf (view s) k → Decides (RowSays (stateOf (o .state) h) k) (r .answer)
+  row-grounds k e = said-by-history (λ x. RowSays x k) (ap (λ (x : Shown). x .answer) e) (row-decides (view s) k)
+
   module _ {before after : List ℕ} where
     pub best-chain-grounds : {r : Best} → Chains (view s) before after r → Decides (ChainSays (length before)) (r .answer)
     best-chain-grounds c = said-by-history (λ x. ChainSays (length before)) (ap (λ (x : Best). x .answer) (c .answers)) (chain-decides (view s) (length before))
@@ -59,5 +65,5 @@ module _ {o : Outcome} {s : Session} {h : List Event} (w : Reached o s h) where
     pub areas-grounds : (k : ℕ) {r : Listed} → Lists (view s) k before after r → Decides (AreasSay (stateOf (o .state) h) k (length before)) (r .answer)
     areas-grounds k l = said-by-history (λ x. AreasSay x k (length before)) (ap (λ (x : Listed). x .answer) (l .answers)) (areas-decides (view s) k before)
 
-    pub write-deck-grounds : {r : Written} → Writes (deckRows (table s)) before after r → Decides (WriteSays (stateOf (o .state) h) (length before)) (r .answer)
+    pub write-deck-grounds : {r : Written} → Writes (presentRows (rowsOf (s .table))) before after r → Decides (WriteSays (stateOf (o .state) h) (length before)) (r .answer)
     write-deck-grounds v = said-by-history (λ x. WriteSays x (length before)) (ap (λ (x : Written). x .answer) (v .answers)) (write-decides (view s) (length before))

@@ -3,6 +3,7 @@ use mathlib.Core.Path.{_≡_, refl, sym, ap, subst}
 use mathlib.Core.Bool.{Bool, true, false, not, cond, _&&_, Bool·beq, false≢true}
 use mathlib.Core.List.{List}
 use Prim.Native.Nat.{ℕ, _+_, _*_, _<_}
+use native.Mathlib.Omega.{arith}
 use lib.ListN.{length}
 use lib.IntN.{ℤ, pos, negsuc}
 use lib.Signed.{_≤ℤ_, leZ}
@@ -31,12 +32,16 @@ use Rattle.best.specs.Best.{scratchNeeded, bestOf}
 use Rattle.best.specs.declared.Best.{Best}
 use Rattle.plain.specs.Plain.{plainOf, writtenOf}
 use Rattle.plain.specs.declared.Written.{Written}
-use Rattle.chain.specs.State.{State, decide, rowOf, pairCount, givenOut, countAnswer, rescoreAnswer, rescore, moveAnswer, moveTo, limitAnswer, addAnswer, add}
+use Rattle.table.specs.Rows.{Row, rowOf, pairCount, givenOut, presentRows, inRange}
+use Rattle.adding.specs.Adding.{limitAnswer, nextAnswer}
+use Rattle.chain.specs.State.{State, decide, countAnswer, rescoreAnswer, rescore, moveAnswer, moveTo, addAnswer, add}
 use Rattle.answer.specs.Answer.{given, unless}
-use Rattle.dealing.specs.Seeds.{inRange}
-use Rattle.chain.specs.Looking.{bestChain, areasOf, listedIf, deckRows}
-use Rattle.demand.specs.Grounds.{Ground, holds, fails, _then_, earlier, later, Decides, GivenOut, InRange, CountSays, RescoreSays, MoveSays, nextNumber, AddSays, ChainSays, AreasSay, WriteSays}
-use Rattle.demand.proofs.Judging.{clash}
+use Rattle.chain.specs.Looking.{bestChain, areasOf, listedIf, shownIf, shownOf}
+use Rattle.demand.specs.Grounds.{Ground, holds, fails, _then_, earlier, later, Decides, GivenOut, InRange, CountSays, RescoreSays, MoveSays, nextNumber, AddSays, ChainSays, AreasSay, WriteSays, RowSays}
+
+-- Two answers are never equal if one accepts and the other refuses.
+pub clash : {A : Type 0} → _≡_ {A = ℕ} 0 1 → A
+clash e = absurd (omega arith)
 
 -- One ground, whose condition a test tells.
 ground : {C : Type 0} (b : Bool) → Tells b C → (g : enum.Ground) (p : Place) → Decides (Ground C (numberOf g) p) (given b g p Accepted)
@@ -68,6 +73,11 @@ in-order {J} {K} (Refused r p) f g = record { judged = earlier (f .judged); deci
 flat : (b : Bool) (g : enum.Ground) (p : Place) (next rest : Answer) → given b g p (unless next rest) ≡ unless (given b g p next) rest
 flat true g p next rest = refl
 flat false g p next rest = refl
+
+-- Three answers in order, however they are grouped.
+regroup : (a b c : Answer) → unless (unless a b) c ≡ unless a (unless b c)
+regroup Accepted b c = refl
+regroup (Refused g p) b c = refl
 
 module _ {C : Type 0} {K : Said → Type 0} (b : Bool) (t : Tells b C) (g : enum.Ground) (p : Place) where
   guard : {rest : Answer} → Decides K rest → Decides (Ground C (numberOf g) p then K) (given b g p rest)
@@ -110,7 +120,7 @@ module _ (s : State) where
   pub rescore-decides : (k : ℕ) (z : ℤ) → Decides (RescoreSays s k z) (rescore s k z .answer)
   unfolding rescore rescoreAnswer
   rescore-decides k z =
-      subst (Decides (RescoreSays s k z)) (sym (decide-answer (rescoreAnswer (length (s .rows)) (s .changes) k z) s _))
+      subst (Decides (RescoreSays s k z)) (sym (decide-answer (rescoreAnswer s k z) s _))
       (guard _ (tells-given s k) NumberNotGiven Nothing
       (guard _ (tells-range z) ScoreRange (Seed k)
       (count-decides (s .changes))))
@@ -118,7 +128,7 @@ module _ (s : State) where
   pub move-decides : (k : ℕ) (to : Bool) → Decides (MoveSays s k to) (moveTo s k to .answer)
   unfolding moveTo moveAnswer
   move-decides k to =
-      subst (Decides (MoveSays s k to)) (sym (decide-answer (moveAnswer (length (s .rows)) (s .changes) k (rowOf (s .rows) k .present) to) s _))
+      subst (Decides (MoveSays s k to)) (sym (decide-answer (moveAnswer s k to) s _))
       (guard _ (tells-given s k) NumberNotGiven Nothing
       (guard _ (tells-as-asked (rowOf (s .rows) k .present) to) PresenceAsAsked Nothing
       (count-decides (s .changes))))
@@ -128,14 +138,15 @@ module _ (s : State) where
     judge-decides = record { judged = judge.judged tree-q tree-t ps (nextNumber s); decided = judge.decided tree-q tree-t ps (nextNumber s) }
 
     pub add-answer-decides : Decides (AddSays s ps z) (addAnswer s ps z)
-    unfolding addAnswer limitAnswer
+    unfolding addAnswer nextAnswer limitAnswer
     add-answer-decides =
-        guards _ (tells-range z) ScoreRange (Seed (nextNumber s)) _ _
+        subst (Decides (AddSays s ps z)) (sym (regroup (limitAnswer (length (s .rows)) (pairCount (s .rows)) (length ps) z) _ _))
+        (guards _ (tells-range z) ScoreRange (Seed (nextNumber s)) _ _
         (guards _ (tells-eq (length ps) 0) NoPairs (Seed (nextNumber s)) _ _
         (guards _ (tells-le 64 (length (s .rows))) SeedLimit (Seed (nextNumber s)) _ _
         (guards _ (tells-lt 1024 (pairCount (s .rows) + length ps)) PairLimit (Seed (nextNumber s)) Accepted _
         (in-order _ judge-decides
-        (count-decides (s .changes))))))
+        (count-decides (s .changes)))))))
 
     pub add-decides : Decides (AddSays s ps z) (add s ps z .answer)
     unfolding add
@@ -167,8 +178,17 @@ areas-decides s k out =
     (guard _ (tells-given s k) NumberNotGiven Nothing
     (ground _ (tells-lt (length out) (length (areasOf s k) * 4)) OutputShort Nothing))
 
-pub write-decides : (s : State) (room : ℕ) → Decides (WriteSays s room) (writtenOf (plainOf (deckRows (s .rows))) room .answer)
+pub write-decides : (s : State) (room : ℕ) → Decides (WriteSays s room) (writtenOf (plainOf (presentRows (s .rows))) room .answer)
 unfolding writtenOf
 write-decides s room =
-    subst (Decides (WriteSays s room)) (sym (if-room (λ (x : Written). x .answer) OutputShort (leb (length (plainOf (deckRows (s .rows)))) room) _ _ refl refl))
-    (ground _ (tells-short (length (plainOf (deckRows (s .rows)))) room) OutputShort Nothing)
+    subst (Decides (WriteSays s room)) (sym (if-room (λ (x : Written). x .answer) OutputShort (leb (length (plainOf (presentRows (s .rows)))) room) _ _ refl refl))
+    (ground _ (tells-short (length (plainOf (presentRows (s .rows)))) room) OutputShort Nothing)
+
+row-answer : (b : Bool) (row : Row) → shownIf b row .answer ≡ given (not b) NumberNotGiven Nothing Accepted
+row-answer true row = refl
+row-answer false row = refl
+
+pub row-decides : (s : State) (k : ℕ) → Decides (RowSays s k) (shownOf s k .answer)
+row-decides s k =
+    subst (Decides (RowSays s k)) (sym (row-answer (givenOut (length (s .rows)) k) (rowOf (s .rows) k)))
+    (ground _ (tells-given s k) NumberNotGiven Nothing)

@@ -1,5 +1,5 @@
 -- Each opening answers what its grounds say, and nothing else may be answered.
-use mathlib.Core.Path.{_≡_, refl, subst}
+use mathlib.Core.Path.{_≡_, refl, sym, subst}
 use mathlib.Core.Bool.{Bool, true, false, not}
 use mathlib.Core.List.{List, [], _∷_, _++_, flatten}
 use Prim.Native.Nat.{ℕ, suc, _+_, _≤_, _<_}
@@ -20,22 +20,23 @@ use Rattle.tree.proofs.Grounds as texts
 use Rattle.tree.proofs.Trees.{tree-nested}
 use Rattle.judge.specs.Judge.{judgeOf}
 use Rattle.deck.specs.Deck as deck
-use Rattle.deck.specs.Deck.{DeckRow, chainsOf}
+use Rattle.table.specs.Rows.{Row, newRow, pairCount, inRange}
+use Rattle.table.proofs.Tables.{count-more}
+use Rattle.adding.specs.Adding.{limitAnswer, nextAnswer}
+use Rattle.deck.specs.Deck.{chainsOf}
 use Rattle.deck.specs.Handed.{answerOf, rowsIn}
 use Rattle.deck.proofs.Grounds as decks
 use Rattle.deck.proofs.Accepted.{source, storable}
-use Rattle.chain.specs.State.{State, pairCount, changed, countAnswer, limitAnswer, addAnswer}
+use Rattle.chain.specs.State.{State, changed, countAnswer, addAnswer}
 use Rattle.answer.specs.Answer.{given, unless}
-use Rattle.dealing.specs.Seeds.{inRange}
-use Rattle.chain.specs.Opening.{opening, presentRow, deckAnswer, onDeck, deckOpening}
+use Rattle.chain.specs.Opening.{opening, deckOpening}
 use Rattle.dealing.specs.Texts.{inT, bothOf, bothRead}
 use Rattle.dealing.specs.Seeds.{seedAnswer, seedsAnswer}
+use Rattle.dealing.specs.Deal.{Deal, deckAnswer, dealBy, dealAnswer, dealOf}
 use Rattle.demand.specs.Grounds.{Decides, nextNumber, OfT, OpenSays, SeedsSay, DeckSays}
 use Rattle.demand.specs.Grounds.OfT.{byte, none}
-use Rattle.demand.proofs.Judging.{clash}
-use Rattle.demand.proofs.Grown.{count-more}
 use Rattle.dealing.proofs.BothRead.{are-trees}
-use Rattle.demand.proofs.Grounds.{in-order, add-answer-decides}
+use Rattle.demand.proofs.Grounds.{clash, in-order, add-answer-decides}
 
 -- The two texts.
 of-t : {J : Said → Type 0} (x : tree.Reading) → Decides J (tree.answerOf x) → Decides (OfT J) (inT (tree.answerOf x))
@@ -65,27 +66,27 @@ open-decides q t =
     (in-order (tree.answerOf (tree.reading q)) (text-decides q) (of-t (tree.reading t) (text-decides t)))
 
 -- The seeds of a deck that are still to be added fit: grounds 12, 13, 14 and 20 never hold of them.
-record Fits (s : State) (rows : List DeckRow) : Type 0 where
+record Fits (s : State) (rows : List Row) : Type 0 where
   seeds : length (s .rows) + length rows ≤ 64
   pairs : pairCount (s .rows) + length (flatten (chainsOf rows)) ≤ 1024
   some : (i : ℕ) → i < length rows → 0 < length (getD (chainsOf rows) i [])
   count : s .changes ≤ length (s .rows)
 
-module _ (s : State) (row : DeckRow) (rows : List DeckRow) (fits : Fits s (row ∷ rows)) where
-  fits-next : Fits (changed s (s .rows ++ presentRow row ∷ [])) rows
+module _ (s : State) (row : Row) (rows : List Row) (fits : Fits s (row ∷ rows)) where
+  fits-next : Fits (changed s (s .rows ++ newRow (row .pairs) (row .score) ∷ [])) rows
   unfolding flatten
   fits-next =
-      let n = length-append (s .rows) (presentRow row ∷ []) in
+      let n = length-append (s .rows) (newRow (row .pairs) (row .score) ∷ []) in
       record {
         seeds = omega (arith, fits .seeds);
-        pairs = omega (arith, fits .pairs, count-more (s .rows) (presentRow row), length-append (row .pairs) (flatten (chainsOf rows)));
+        pairs = omega (arith, fits .pairs, count-more (s .rows) (newRow (row .pairs) (row .score)), length-append (row .pairs) (flatten (chainsOf rows)));
         some = λ i l. fits .some (suc i) (omega arith);
         count = omega (arith, fits .count);
       }
 
   -- The answer to its add is that of grounds 11 and 15 to 19.
   as-add : addAnswer s (row .pairs) (row .score) ≡ seedAnswer (leavesOf (s .q)) (leavesOf (s .t)) (nextNumber s) row
-  unfolding addAnswer limitAnswer countAnswer flatten
+  unfolding addAnswer nextAnswer limitAnswer countAnswer flatten
   as-add =
       rw (
         ne-eqb (length (row .pairs)) 0 (λ e. absurd (omega (arith, fits .some 0 (omega arith), e))),
@@ -95,17 +96,17 @@ module _ (s : State) (row : DeckRow) (rows : List DeckRow) (fits : Fits s (row �
       )
       (go (not (inRange (row .score))) (judgeOf (leavesOf (s .q)) (leavesOf (s .t)) (row .pairs) (nextNumber s)))
     where
-      go : (b : Bool) (x : Answer) → unless (given b ScoreRange (Seed (nextNumber s)) Accepted) (unless x Accepted) ≡ given b ScoreRange (Seed (nextNumber s)) x
+      go : (b : Bool) (x : Answer) → unless (unless (given b ScoreRange (Seed (nextNumber s)) Accepted) x) Accepted ≡ given b ScoreRange (Seed (nextNumber s)) x
       go true x = refl
       go false Accepted = refl
       go false (Refused g p) = refl
 
-seeds-decide : (rows : List DeckRow) (s : State) → Nested (leavesOf (s .q)) → Nested (leavesOf (s .t)) → Fits s rows → Decides (SeedsSay s rows) (seedsAnswer (leavesOf (s .q)) (leavesOf (s .t)) (nextNumber s) rows)
+seeds-decide : (rows : List Row) (s : State) → Nested (leavesOf (s .q)) → Nested (leavesOf (s .t)) → Fits s rows → Decides (SeedsSay s rows) (seedsAnswer (leavesOf (s .q)) (leavesOf (s .t)) (nextNumber s) rows)
 unfolding SeedsSay seedsAnswer
 seeds-decide [] s tree-q tree-t fits = record { judged = refl; decided = λ e. e }
 seeds-decide (row ∷ rows) s tree-q tree-t fits =
-    let next : State = changed s (s .rows ++ presentRow row ∷ []) in
-    let number : nextNumber next ≡ suc (nextNumber s) = omega (arith, length-append (s .rows) (presentRow row ∷ [])) in
+    let next : State = changed s (s .rows ++ newRow (row .pairs) (row .score) ∷ []) in
+    let number : nextNumber next ≡ suc (nextNumber s) = omega (arith, length-append (s .rows) (newRow (row .pairs) (row .score) ∷ [])) in
     in-order (seedAnswer (leavesOf (s .q)) (leavesOf (s .t)) (nextNumber s) row)
     (subst (Decides _) (as-add s row rows fits) (add-answer-decides s tree-q tree-t (row .pairs) (row .score)))
     (subst (λ (n : ℕ). Decides (SeedsSay next rows) (seedsAnswer (leavesOf (s .q)) (leavesOf (s .t)) n rows)) number (seeds-decide rows next tree-q tree-t (fits-next s row rows fits)))
@@ -119,18 +120,22 @@ deck-fits q t d = go (deck.reading d) refl
     go (deck.Reading.refused g p) e = record { seeds = omega arith; pairs = omega arith; some = λ i l. absurd (omega arith); count = omega arith }
     go (deck.Reading.accepted rows) e =
         let w = storable d rows (source d rows e) in
-        let n = length-map rows (λ (r : DeckRow). r .pairs) in
+        let n = length-map rows (λ (r : Row). r .pairs) in
         record { seeds = omega (arith, w .seeds); pairs = omega (arith, w .pairs); some = λ i l. w .some i (omega arith); count = omega arith }
 
-deck-answer : (a : Answer) (s : State) → a ≡ onDeck a s .answer
-deck-answer Accepted s = refl
-deck-answer (Refused g p) s = refl
+deal-answer : (a : Answer) (whole : Deal) → whole .answer ≡ Accepted → a ≡ dealBy a whole .answer
+deal-answer Accepted whole e = sym e
+deal-answer (Refused g p) whole e = refl
 
 pub deck-decides : (q t d : List ℕ) → Decides (DeckSays q t d) (deckOpening q t d .answer)
-unfolding deckOpening deckAnswer opening
+unfolding deckOpening dealOf opening
 deck-decides q t d =
-    let trees = are-trees q t (bothRead q t) refl in
-    subst (Decides (DeckSays q t d)) (deck-answer (deckAnswer (bothRead q t) (deck.reading d)) _)
-    (in-order (bothRead q t .answer) (open-decides q t)
-    (in-order (answerOf (deck.reading d)) record { judged = decks.judged d; decided = decks.decided d }
-    (seeds-decide (rowsIn (deck.reading d)) (opening q t .state) (tree-nested _ (trees .0)) (tree-nested _ (trees .1)) (deck-fits q t d))))
+    subst (Decides (DeckSays q t d)) (deal-answer (dealAnswer q t d) _ refl) by-parts
+  where
+    by-parts : Decides (DeckSays q t d) (dealAnswer q t d)
+    unfolding dealAnswer deckAnswer opening
+    by-parts =
+        let trees = are-trees q t (bothRead q t) refl in
+        in-order (bothRead q t .answer) (open-decides q t)
+        (in-order (answerOf (deck.reading d)) record { judged = decks.judged d; decided = decks.decided d }
+        (seeds-decide (rowsIn (deck.reading d)) (opening q t .state) (tree-nested _ (trees .0)) (tree-nested _ (trees .1)) (deck-fits q t d)))

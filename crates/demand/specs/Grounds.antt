@@ -17,7 +17,7 @@ use Rattle.tree.specs.Grounds as tree
 use Rattle.judge.specs.Grounds as seed
 use Rattle.seed.specs.declared.Pair.{Pair}
 use Rattle.best.specs.Best.{scratchNeeded}
-use Rattle.table.specs.Rows.{Row, pairCount, rowOf, presentRows}
+use Rattle.table.specs.Rows.{Row, newRow, pairCount, rowOf, presentRows}
 use Rattle.deck.specs.Deck.{reading}
 use Rattle.plain.specs.Plain.{plainOf}
 use Rattle.deck.specs.Handed.{rowsIn}
@@ -112,7 +112,7 @@ OpenSays q t = tree.Judged q then OfT (tree.Judged t)
 -- A deck's seeds count as adds and pass their grounds one seed at a time.
 unfoldable pub SeedsSay : State → List Row → Said → Type 0
 SeedsSay s [] = λ x. x ≡ accepted
-SeedsSay s (row ∷ rows) = AddSays s (row .pairs) (row .score) then SeedsSay (changed s (s .rows ++ row ∷ [])) rows
+SeedsSay s (row ∷ rows) = AddSays s (row .pairs) (row .score) then SeedsSay (changed s (s .rows ++ newRow (row .pairs) (row .score) ∷ [])) rows
 
 -- Opening on two texts and a deck: the texts, then the deck by 5 to 8, then its seeds.
 abbrev pub DeckSays : List ℕ → List ℕ → List ℕ → Said → Type 0

@@ -1,5 +1,5 @@
 -- Demand 3 with the two calls on lent memory: their contracts are those that a step of the history cites, so a list of calls may have them
--- wherever it has the calls by value. Assumes nothing.
+-- wherever it has the calls by value.
 use mathlib.Core.List.{List, _∷_}
 use Prim.Native.Nat.{ℕ, _≤_}
 use lib.IntN.{ℤ}
@@ -9,14 +9,14 @@ use Rattle.seed.specs.declared.Pair.{Pair}
 use Rattle.best.specs.Best.{scratchNeeded, NamesBest}
 use Rattle.best.specs.declared.Best.{Best}
 use Rattle.chain.specs.State.{Outcome, add, rescore}
-use Rattle.chain.specs.History.{Call, Event, stateOf}
+use Rattle.demand.specs.History.{Call, Event, stateOf}
 use Rattle.chain.specs.View.{view, Does}
 use Rattle.chain.specs.Looking.{seedsIn, Chains}
-use Rattle.chain.specs.Reached.{event, Reached}
-use Rattle.chain.specs.Reached.Reached.{added, rescored}
+use Rattle.demand.specs.Reached.{event, Reached}
+use Rattle.demand.specs.Reached.Reached.{added, rescored}
 use Rattle.chain.specs.declared.Session.{Session}
 use Rattle.chain.specs.declared.Added.{Added}
-use Rattle.chain.proofs.Demand.{demand-3}
+use Rattle.demand.proofs.Demand.{demand-3}
 
 -- The session that `add` hands over, of the pairs of a lent slice, is the history's with that add.
 pub add-reached : {o : Outcome} {s : Session} {h : List Event} (ps : List Pair) (z : ℤ) (r : Added) → Reached o s h → Does s (add (view s) ps z) (r .answer) (r .session) → Reached o (r .session) (event (Call.add ps z) (r .answer) ∷ h)

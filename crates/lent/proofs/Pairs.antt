@@ -1,15 +1,14 @@
 -- The nodes of a list of pairs hold its first 1,025 pairs, and these are added as the whole list is: of more than 1,024 pairs none is looked at.
--- Assumes nothing.
 use mathlib.Core.Path.{_≡_, refl, ap, sym, _∙_}
 use mathlib.Core.Bool.{Bool, true, false, not}
 use mathlib.Core.Logic.{inl, inr}
 use mathlib.Core.List.{List, [], _∷_, _++_, append-assoc, append-nil}
-use Prim.Native.Nat.{ℕ, zero, suc, _+_, _≤_, _<_, min}
+use Prim.Native.Nat.{ℕ, zero, suc, _+_, _≤_, _<_}
 use native.Mathlib.Numerals.{add-one}
 use native.Mathlib.Omega.{arith}
 use lib.Dec.{leb}
 use lib.IntN.{ℤ}
-use lib.ListN.{length, take, drop, getD, set, length-set, length-take, length-replicate}
+use lib.ListN.{length, take, drop, getD, set, length-set, length-replicate}
 use lib.Seq.{drop-cons, drop-length, take-all, take-nil, take-suc-set, length-take-le}
 use borrow.Author.Tests.{lt-ltb, le-ltb, ne-eqb}
 use Rattle.answer.specs.declared.Answer.{Answer}
@@ -20,9 +19,10 @@ use Rattle.answer.specs.declared.Place.the-variants.{Seed}
 use Rattle.tree.proofs.Leaves.{lt-or-le}
 use Rattle.seed.specs.Pairs.{pairOf, pairsOf}
 use Rattle.seed.specs.declared.Pair.{Pair}
-use Rattle.chain.specs.State.{State, decide, limitAnswer, addAnswer, add}
 use Rattle.answer.specs.Answer.{given, unless}
-use Rattle.dealing.specs.Seeds.{inRange}
+use Rattle.table.specs.Rows.{inRange}
+use Rattle.adding.specs.Adding.{limitAnswer, nextAnswer}
+use Rattle.chain.specs.State.{State, decide, addAnswer, add}
 use Rattle.lent.specs.Listing.{noNodes, withPair, withPairs, heldIn, Filled}
 use Rattle.lent.specs.declared.listing.Nodes.{Nodes}
 
@@ -114,13 +114,13 @@ limit-many : (seeds pairs count : ℕ) (z : ℤ) → 1024 < count → limitAnswe
 unfolding limitAnswer
 limit-many seeds pairs count z h = rw (ne-eqb count 0 (λ e. omega arith), lt-ltb 1024 (pairs + count) (omega arith))
 
-refused-alike : (b c : Bool) (p : Place) (later later′ : Answer) (s next next′ : State) → decide (unless (tooMany b c p) later) s next ≡ decide (unless (tooMany b c p) later′) s next′
-refused-alike true c p later later′ s next next′ = refl
-refused-alike false true p later later′ s next next′ = refl
-refused-alike false false p later later′ s next next′ = refl
+refused-alike : (b c : Bool) (p : Place) (judged judged′ later : Answer) (s next next′ : State) → decide (unless (unless (tooMany b c p) judged) later) s next ≡ decide (unless (unless (tooMany b c p) judged′) later) s next′
+refused-alike true c p judged judged′ later s next next′ = refl
+refused-alike false true p judged judged′ later s next next′ = refl
+refused-alike false false p judged judged′ later s next next′ = refl
 
 pub add-many : (s : State) (ps ps′ : List Pair) (z : ℤ) → 1024 < length ps → 1024 < length ps′ → add s ps z ≡ add s ps′ z
-unfolding add addAnswer
+unfolding add addAnswer nextAnswer
 add-many s ps ps′ z h h′ = rw (limit-many _ _ (length ps) z h, limit-many _ _ (length ps′) z h′) (refused-alike (not (inRange z)) (leb 64 (length (s .rows))) _ _ _ s _ _)
 
 -- So the pairs held are added as the whole list is.
@@ -131,12 +131,3 @@ add-listed s ps z =
       | inl more ↦ add-many s (take 1025 ps) ps z (rw (length-take-le 1025 ps (omega arith)) (omega arith)) (omega arith)
       | inr all ↦ ap (λ (held : List Pair). add s held z) (take-all 1025 ps all)
     ]
-
--- As many of a list as are asked for and as there are.
-take-front : (c : ℕ) (xs : List Pair) → take (length (take c xs)) xs ≡ take c xs
-take-front zero xs = refl
-take-front (suc c) [] = refl
-take-front (suc c) (x ∷ xs) = ap (λ (rest : List Pair). x ∷ rest) (take-front c xs)
-
-pub take-least : (c : ℕ) (xs : List Pair) → take (min c (length xs)) xs ≡ take c xs
-take-least c xs = ap (λ (m : ℕ). take m xs) (sym (length-take c xs)) ∙ take-front c xs

@@ -1,4 +1,4 @@
--- What the contract of `rescore` means: the seed changes nowhere but in its score. Assumes nothing.
+-- What the contract of `rescore` means: the seed changes nowhere but in its score.
 use mathlib.Core.Path.{_≡_, refl, sym, ap, _∙_}
 use mathlib.Core.Logic.{_≢_}
 use mathlib.Core.List.{List}
@@ -9,50 +9,51 @@ use lib.ListN.{length, length-set}
 use lib.Seq.{getD-set-same, getD-set-other}
 use Rattle.answer.specs.declared.Answer.{Answer}
 use Rattle.answer.specs.declared.Answer.the-variants.{Accepted, Refused}
-use Rattle.chain.specs.State.{Row, State, decide, noRow, rowOf, withRow, withScore, changed, rescoreAnswer, rescore}
-use Rattle.chain.specs.View.{table, view, Does}
+use Rattle.table.specs.Rows.{Row, noRow, rowOf, withRow, withScore}
+use Rattle.table.specs.Table.{rowsOf}
+use Rattle.chain.specs.State.{State, decide, changed, rescoreAnswer, rescore}
+use Rattle.chain.specs.View.{view, Does}
 use Rattle.chain.specs.declared.Session.{Session}
 use Rattle.lent.specs.Rescored.{OnlyScore, Rescored}
 use Rattle.chain.proofs.Judging.{Given, rescorable}
-use Rattle.chain.proofs.Tables.{table-length}
 
 decided : (b : Answer) (s next : State) → decide b s next .answer ≡ b
 decided Accepted s next = refl
 decided (Refused g p) s next = refl
 
 module _ (s next : Session) (k : ℕ) (z : ℤ) (a : Answer) (d : Does s (rescore (view s) k z) a next) (ok : a ≡ Accepted) where
-  passed : rescoreAnswer (length (table s)) (s .changes) k z ≡ Accepted
+  passed : rescoreAnswer (view s) k z ≡ Accepted
   unfolding rescore
   passed = sym (decided _ (view s) _) ∙ sym (d .answers) ∙ ok
 
-  number : Given (length (table s)) k
-  number = rescorable _ _ k z passed .number
+  number : Given (length (rowsOf (s .table))) k
+  number = rescorable (view s) k z passed .number
 
-  state : view next ≡ changed (view s) (withRow (table s) k (withScore (rowOf (table s) k) z))
+  state : view next ≡ changed (view s) (withRow (rowsOf (s .table)) k (withScore (rowOf (rowsOf (s .table)) k) z))
   unfolding rescore
-  state = d .leaves ∙ ap (λ (b : Answer). decide b (view s) (changed (view s) (withRow (table s) k (withScore (rowOf (table s) k) z))) .state) passed
+  state = d .leaves ∙ ap (λ (b : Answer). decide b (view s) (changed (view s) (withRow (rowsOf (s .table)) k (withScore (rowOf (rowsOf (s .table)) k) z))) .state) passed
 
-  rows : table next ≡ withRow (table s) k (withScore (rowOf (table s) k) z)
+  rows : rowsOf (next .table) ≡ withRow (rowsOf (s .table)) k (withScore (rowOf (rowsOf (s .table)) k) z)
   rows = ap (λ (x : State). x .rows) state
 
-  row : rowOf (table next) k ≡ withScore (rowOf (table s) k) z
+  row : rowOf (rowsOf (next .table)) k ≡ withScore (rowOf (rowsOf (s .table)) k) z
   unfolding rowOf withRow
-  row = ap (λ (t : List Row). rowOf t k) rows ∙ getD-set-same (table s) (k - 1) _ noRow (omega (arith, number))
+  row = ap (λ (t : List Row). rowOf t k) rows ∙ getD-set-same (rowsOf (s .table)) (k - 1) _ noRow (omega (arith, number))
 
-  other : (j : ℕ) → 1 ≤ j → j ≢ k → rowOf (table next) j ≡ rowOf (table s) j
+  other : (j : ℕ) → 1 ≤ j → j ≢ k → rowOf (rowsOf (next .table)) j ≡ rowOf (rowsOf (s .table)) j
   unfolding rowOf withRow
-  other j low ne = ap (λ (t : List Row). rowOf t j) rows ∙ getD-set-other (table s) (k - 1) (j - 1) _ noRow (λ e. ne (omega (arith, number, low)))
+  other j low ne = ap (λ (t : List Row). rowOf t j) rows ∙ getD-set-other (rowsOf (s .table)) (k - 1) (j - 1) _ noRow (λ e. ne (omega (arith, number, low)))
 
-  same-length : length (table next) ≡ length (table s)
+  same-length : length (rowsOf (next .table)) ≡ length (rowsOf (s .table))
   unfolding withRow
-  same-length = ap length rows ∙ length-set (table s) (k - 1) _
+  same-length = ap length rows ∙ length-set (rowsOf (s .table)) (k - 1) _
 
   only-score : OnlyScore s k z next
   only-score =
       record {
         tree-q = ap (λ (x : State). x .q) state;
         tree-t = ap (λ (x : State). x .t) state;
-        seeds = sym (table-length next) ∙ same-length ∙ table-length s;
+        seeds = same-length;
         others = other;
         pairs = ap (λ (r : Row). r .pairs) row;
         present = ap (λ (r : Row). r .present) row;

@@ -1,4 +1,4 @@
--- A list of pairs by value, and the nodes of the first 1,025 pairs of a list in two lists. Assumes nothing.
+-- The nodes of the first 1,025 pairs of a list, in two lists.
 use mathlib.Core.Bool.{cond}
 use mathlib.Core.List.{List, [], _∷_}
 use Prim.Native.Nat.{ℕ, _+_, _≤_}
@@ -6,12 +6,7 @@ use lib.Dec.{ltb}
 use lib.ListN.{length, set, replicate, take}
 use Rattle.seed.specs.Pairs.{pairsOf}
 use Rattle.seed.specs.declared.Pair.{Pair}
-use Rattle.lent.specs.declared.PairList.{PairList}
 use Rattle.lent.specs.declared.listing.Nodes.{Nodes}
-
--- The pairs on a list by value: the first of its array, as many as it counts.
-abbrev pub pairsOn : PairList → List Pair
-pairsOn l = take (l .count) (l .pairs)
 
 unfoldable pub noNodes : Nodes
 noNodes = record { count = 0; qs = replicate 1025 0; ts = replicate 1025 0 }

@@ -1,6 +1,6 @@
--- `lent::rescore_by_reference` meets its contract: a walk of its MIR, by hand. The session stands in a local, which is lent as `&mut` for a
+-- `test_lent::rescore_by_reference` meets its contract: a walk of its MIR, by hand. The session stands in a local, which is lent as `&mut` for a
 -- lifetime made for the call (`lft-new`, `lends-ref`); after the call the lifetime is ended and the local taken back at the last value that
--- the callee's contract says (`lft-end`, `ref-back`). All that the proof knows of `rescore` is that it meets its contract. Assumes nothing.
+-- the callee's contract says (`lft-end`, `ref-back`). All that the proof knows of `rescore` is that it meets its contract.
 use mathlib.Core.Path.{refl, ap, subst}
 use Prim.Native.Nat.{ℕ}
 use mathlib.Core.List.{[], _∷_, List}
@@ -54,14 +54,14 @@ use Rattle.chain.proofs.Changed as C′
 use Rattle.chain.proofs.Changed.Laws as C″
 use Rattle.answer.proofs.Answer as E
 use Rattle.answer.proofs.Answer.Laws as E′
 use Rattle.lent.proofs.rescore as g
 use Rattle.lent.proofs.rescore.Symbol as g-def
 use Rattle.lent.proofs.rescore.Symbol.{name as #lent·rescore}
 use Rattle.lent.proofs.rescore.Met as g-thm
-use Rattle.lent.proofs.rescore_by_reference.Key.{name as #lent·rescore-by-reference}
-use Rattle.lent.proofs.rescore_by_reference as f
-use Rattle.lent.proofs.rescore_by_reference.Statement as stated
-use Rattle.lent.proofs.rescore_by_reference.Code as code
+use Rattle.test_lent.proofs.rescore_by_reference.Key.{name as #lent·rescore-by-reference}
+use Rattle.test_lent.proofs.rescore_by_reference as f
+use Rattle.test_lent.proofs.rescore_by_reference.Statement as stated
+use Rattle.test_lent.proofs.rescore_by_reference.Code as code
 
 abbrev stayed : Stays (f.ended .signature .params) (f.ended .kept)
 stayed = (stay-none (λ _. T.the-row) yes, (stay-none (λ _. usize) yes, (stay-none (λ _. i32) yes, tt)))

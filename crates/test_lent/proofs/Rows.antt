@@ -1,5 +1,5 @@
 -- A row of pairs in memory: the array of a `PairList` as a local holds it, cut after its first pairs so that these can be lent, and joined again.
--- Assumes nothing.
+--
 use mathlib.Core.Path.{sym, _∙_}
 use Prim.Native.Nat.{ℕ, zero, suc, _+_}
 use mathlib.Core.List.{[], _∷_, List, map}
@@ -23,11 +23,11 @@ use denote.Steps.{only, owned, nothing}
 use denote.Struct.Steps.{spelt}
 use denote.Struct.Laws as LL
 use Rattle.seed.specs.declared.Pair.{Pair}
-use Rattle.lent.specs.declared.PairList.{PairList}
+use Rattle.test_lent.specs.declared.PairList.{PairList}
 use Rattle.seed.proofs.Pair as T
 use Rattle.seed.proofs.Pair.Laws as T′
-use Rattle.lent.proofs.PairList as F
-use Rattle.lent.proofs.PairList.Laws as F′
+use Rattle.test_lent.proofs.PairList as F
+use Rattle.test_lent.proofs.PairList.Laws as F′
 
 abbrev pub fvals : PairList → List Val
 fvals = LL.vals F.the-type F′.the-laws

@@ -1,7 +1,7 @@
--- `lent::lent_count` meets its contract. Assumes nothing.
+-- `test_lent::lent_count` meets its contract.
 use borrow.Author.Needs.{needs}
-use Rattle.lent.proofs.lent_count.Statement.{statement}
-use Rattle.lent.proofs.lent_count.Tie as tie
+use Rattle.test_lent.proofs.lent_count.Statement.{statement}
+use Rattle.test_lent.proofs.lent_count.Tie as tie
 
 returns : tie.Need-returns
 returns c = search needs

@@ -1,6 +1,6 @@
--- `lent::add_from` meets its contract: a walk of its MIR, by hand. The pairs stand in a local array, whose first ones are lent as a `&[Pair]`
+-- `test_lent::add_from` meets its contract: a walk of its MIR, by hand. The pairs stand in a local array, whose first ones are lent as a `&[Pair]`
 -- for a lifetime made for the call: the row of elements is cut in two (`cuts`), and the front is lent; after the call it comes back and the two
--- are joined (`joins`). All that the proof knows of `lent_count` and `add` is that they meet their contracts. Assumes nothing.
+-- are joined (`joins`). All that the proof knows of `lent_count` and `add` is that they meet their contracts.
 use mathlib.Core.Path.{_≡_, refl, sym, ap, _∙_, subst}
 use Prim.Native.Nat.{ℕ, _<_, _≤_, _^_, min}
 use native.Mathlib.Nat.{min-le-right}
@@ -54,30 +54,30 @@ use Rattle.chain.specs.State.{add, numberGiven}
 use Rattle.chain.specs.View.{view, Sound, Does}
 use Rattle.chain.specs.declared.Session.{Session}
 use Rattle.chain.specs.declared.Added.{Added}
-use Rattle.lent.specs.Listing.{pairsOn}
-use Rattle.lent.specs.declared.PairList.{PairList}
+use Rattle.test_lent.specs.Lending.{pairsOn}
+use Rattle.test_lent.specs.declared.PairList.{PairList}
 use Rattle.seed.proofs.Pair as T
 use Rattle.seed.proofs.Pair.Laws as T′
 use Rattle.chain.proofs.Session as S
 use Rattle.chain.proofs.Session.Laws as S′
 use Rattle.chain.proofs.Added as R
 use Rattle.chain.proofs.Added.Laws as R′
-use Rattle.lent.proofs.PairList as F
-use Rattle.lent.proofs.PairList.Laws as F′
-use Rattle.lent.proofs.Pairs.{take-least}
-use Rattle.lent.proofs.Rows.{pvals, fvals, Row, rowTy, aval, is-at, lie-in, lie-out, after, cuts, joins}
-use Rattle.lent.proofs.lent_count as e
-use Rattle.lent.proofs.lent_count.Symbol as e-def
-use Rattle.lent.proofs.lent_count.Symbol.{name as #lent·lent-count}
-use Rattle.lent.proofs.lent_count.Met as e-thm
+use Rattle.test_lent.proofs.PairList as F
+use Rattle.test_lent.proofs.PairList.Laws as F′
+use Rattle.test_lent.proofs.Taking.{take-least}
+use Rattle.test_lent.proofs.Rows.{pvals, fvals, Row, rowTy, aval, is-at, lie-in, lie-out, after, cuts, joins}
+use Rattle.test_lent.proofs.lent_count as e
+use Rattle.test_lent.proofs.lent_count.Symbol as e-def
+use Rattle.test_lent.proofs.lent_count.Symbol.{name as #lent·lent-count}
+use Rattle.test_lent.proofs.lent_count.Met as e-thm
 use Rattle.lent.proofs.add as g
 use Rattle.lent.proofs.add.Symbol as g-def
 use Rattle.lent.proofs.add.Symbol.{name as #lent·add}
 use Rattle.lent.proofs.add.Met as g-thm
-use Rattle.lent.proofs.add_from.Key.{name as #lent·add-from}
-use Rattle.lent.proofs.add_from as f
-use Rattle.lent.proofs.add_from.Statement as stated
-use Rattle.lent.proofs.add_from.Code as code
+use Rattle.test_lent.proofs.add_from.Key.{name as #lent·add-from}
+use Rattle.test_lent.proofs.add_from as f
+use Rattle.test_lent.proofs.add_from.Statement as stated
+use Rattle.test_lent.proofs.add_from.Code as code
 
 abbrev stayed : Stays (f.ended .signature .params) (f.ended .kept)
 stayed = (stay-none (λ _. S.the-row) yes, (stay-none (λ _. F.the-row) yes, (stay-none (λ _. i32) yes, tt)))
