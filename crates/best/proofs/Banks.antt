@@ -1,4 +1,4 @@
--- A key that is put into a bank of the scratch, and the search for the best of a bank. Assumes nothing.
+-- A key that is put into a bank of the scratch, and the search for the best of a bank.
 use mathlib.Core.Path.{_≡_, refl, sym, ap, ap₂, _∙_}
 use mathlib.Core.Bool.{Bool, true, false}
 use mathlib.Core.List.{List}
@@ -15,7 +15,7 @@ use Rattle.optimum.specs.Key.{Key, empty, better, inMask}
 use Rattle.optimum.specs.Table.{maxBelow, stored}
 use Rattle.optimum.proofs.Keys.{_≼_, ≼-refl, ≼-trans, ≼-antisym, better-l, better-r, better-ind}
 use Rattle.optimum.proofs.Maxima.{max-empty, max-upper, max-least}
-use Rattle.best.specs.Table.{keyAt, rows, minus, marked, Rising}
+use Rattle.best.specs.Scratch.{keyAt, rows, minus, marked, Rising}
 use Rattle.best.proofs.Bits.{in-either, alone-is, minus-from, minus-gone}
 use Rattle.best.proofs.Members.{nothing}
 

@@ -1,4 +1,4 @@
--- The key that is found by trying all chains is that of the best chain in document 01's words, and the answer names that chain. Assumes nothing.
+-- The key that is found by trying all chains is that of the best chain in document 01's words, and the answer names that chain.
 use mathlib.Core.Path.{_≡_, refl, sym, _∙_, fun-ext}
 use mathlib.Core.Bool.{Bool, false}
 use mathlib.Core.List.{List}
@@ -17,9 +17,6 @@ use Rattle.tree.proofs.Leaves.{lt-or-le}
 use Rattle.tree.proofs.Trees.{tree-nested}
 use Rattle.seed.specs.Seed.{Seed}
 use Rattle.seed.specs.AreaList.{chainable}
-use Rattle.seed.specs.Store.{pairsAt}
-use Rattle.seed.specs.declared.Pair.{Pair}
-use Rattle.seed.specs.declared.Store.{Store}
 use Rattle.seed.proofs.Chain.{chain-sym}
 use Rattle.seed.proofs.ChainTest.{tells-chainable}
 use Rattle.optimum.specs.Chain.{Seeds, totalOf, total, IsBest}
@@ -28,13 +25,18 @@ use Rattle.optimum.proofs.Booleans.{T-eq, T-neq}
 use Rattle.optimum.proofs.BestChain.{Listed, by-number, best-is-best, best-total}
 use Rattle.seed.specs.Tab.{tab}
 use Rattle.seed.proofs.Tabs.{length-tab, getD-tab}
-use Rattle.best.specs.Best.{keyOf, accepted, scratchNeeded, bestOf, scoreAt, presentAt, seedsOf, NamesBest, Handed, Answered}
+use Rattle.table.specs.Rows.{Row}
+use Rattle.table.specs.Table.{rowsOf, Kept}
+use Rattle.table.specs.declared.Table.{Table}
+use Rattle.table.proofs.Tables.{rows-length}
+use Rattle.best.specs.Standing.{pairsIn, scoreIn, presentIn}
+use Rattle.best.specs.Best.{keyOf, accepted, scratchNeeded, bestOf, seedsOf, NamesBest, Answered}
 use Rattle.best.specs.declared.Best.{Best}
 use Rattle.best.proofs.Bits.{told-yes}
 
 -- ---- the list of 64 answers
 
-tab-is : (f : ℕ → Bool) (n : ℕ) → ((i : ℕ) → T (f i) → i < n) → presentAt (tab n f) ≡ f
+tab-is : (f : ℕ → Bool) (n : ℕ) → ((i : ℕ) → T (f i) → i < n) → (λ i. getD (tab n f) i false) ≡ f
 tab-is f n h = fun-ext (λ i. elim (lt-or-le i n) [ inl b ↦ getD-tab n f i false b | inr b ↦ beyond i b ])
   where
     beyond : (i : ℕ) → n ≤ i → getD (tab n f) i false ≡ f i
@@ -59,38 +61,42 @@ best-natural S f h =
 
 -- ---- the theorem
 
-module _ {Q T : List ℕ} (tree-q : Nested Q) (tree-t : Nested T) (pairs : ℕ → List Pair) (score : ℕ → ℤ) (present : ℕ → Bool) (n : ℕ) (seeds : (i : ℕ) → i < n → Seed Q T (pairs i)) where
+module _ {Q T : List ℕ} (tree-q : Nested Q) (tree-t : Nested T) (rows : List Row) (seeds : (i : ℕ) → i < length rows → Seed Q T (pairsIn rows i)) where
   abbrev S : Seeds
-  S = seedsOf Q T pairs score present n
+  S = seedsOf Q T rows
+
+  -- Two seeds are chainable by the test.
+  abbrev test : ℕ → ℕ → Bool
+  test i j = chainable Q T (pairsIn rows i) (pairsIn rows j)
 
   -- The seeds by their numbers.
-  pub numbered : Listed S (λ i. i) (λ i j. chainable Q T (pairs i) (pairs j)) (seedKey score) present n
+  pub numbered : Listed S (λ i. i) test (seedKey (scoreIn rows)) (presentIn rows) (length rows)
   numbered =
-      by-number S (λ i j. chainable Q T (pairs i) (pairs j))
-      (λ i j. chain-sym (pairs i) (pairs j))
-      (λ i j l b t. tells-chainable tree-q tree-t (pairs i) (pairs j) (seeds i (omega arith)) (seeds j b) .0 (T-eq t))
-      (λ i j l b c. told-yes refl (tells-chainable tree-q tree-t (pairs i) (pairs j) (seeds i (omega arith)) (seeds j b) .1 c))
+      by-number S test
+      (λ i j. chain-sym (pairsIn rows i) (pairsIn rows j))
+      (λ i j l b t. tells-chainable tree-q tree-t (pairsIn rows i) (pairsIn rows j) (seeds i (omega arith)) (seeds j b) .0 (T-eq t))
+      (λ i j l b c. told-yes refl (tells-chainable tree-q tree-t (pairsIn rows i) (pairsIn rows j) (seeds i (omega arith)) (seeds j b) .1 c))
 
   abbrev key : Key
-  key = keyOf Q T pairs score present n
+  key = keyOf Q T rows
 
   best-set : IsBest S (inMask (key .mask))
   unfolding keyOf
-  best-set = best-is-best S (λ i. i) (λ i j. chainable Q T (pairs i) (pairs j)) (seedKey score) present n numbered
+  best-set = best-is-best S (λ i. i) test (seedKey (scoreIn rows)) (presentIn rows) (length rows) numbered
 
   set-total : key .total ≡ total S (inMask (key .mask))
   unfolding keyOf
-  set-total = best-total S (λ i. i) (λ i j. chainable Q T (pairs i) (pairs j)) (seedKey score) present n numbered
+  set-total = best-total S (λ i. i) test (seedKey (scoreIn rows)) (presentIn rows) (length rows) numbered
 
   -- The best chain: the answer names the chain that is best of all by document 01, with exactly its total.
-  pub best-chain : n ≤ 64 → NamesBest S (accepted key)
+  pub best-chain : length rows ≤ 64 → NamesBest S (accepted key)
   best-chain few =
       let e = tab-is (inMask (key .mask)) 64 (λ i t. omega (arith, best-set .chain .given i t)) in
       record { chain-best = rw e best-set; total-is = rw (e, set-total) (best-natural S (inMask (key .mask)) best-set) }
 
--- The call on a long enough scratch names the best chain of the stored seeds.
-pub call-best : (q t : Tree) (s : Store) (n : ℕ) (scores : List ℤ) (present : List Bool) (xs ys : List ℕ) (r : Best) → Handed q t s n scores → Answered q t s n scores present xs ys r → scratchNeeded ≤ length xs → NamesBest (seedsOf (leavesOf q) (leavesOf t) (pairsAt s) (scoreAt scores) (presentAt present) n) r
+-- The call on a long enough scratch names the best chain of the table's seeds.
+pub call-best : (q t : Tree) (table : Table) (xs ys : List ℕ) (r : Best) → Kept q t table → Answered q t table xs ys r → scratchNeeded ≤ length xs → NamesBest (seedsOf (leavesOf q) (leavesOf t) (rowsOf table)) r
 unfolding bestOf
-call-best q t s n scores present xs ys r h a room =
+call-best q t table xs ys r h a room =
     rw (a .answer, le-ltb (length xs) scratchNeeded room)
-    (best-chain (tree-nested q (h .kept .is-q)) (tree-nested t (h .kept .is-t)) (pairsAt s) (scoreAt scores) (presentAt present) n (h .kept .seed) (h .kept .laid .seeds))
+    (best-chain (tree-nested q (h .is-q)) (tree-nested t (h .is-t)) (rowsOf table) (λ i b. h .each i b .seed) (omega (arith, rows-length table, h .laid .few)))

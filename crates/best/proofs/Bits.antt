@@ -1,4 +1,4 @@
--- Which numbers masks have: one of a set, those made of two, that of one number, and that of all. Assumes nothing.
+-- Which numbers masks have: one of a set, those made of two, that of one number, and that of all.
 use mathlib.Core.Path.{_≡_, refl, sym, ap, _∙_}
 use mathlib.Core.Bool.{Bool, true, false, not, cond, _&&_, _||_}
 use mathlib.Core.Logic.{_⊎_, inl, inr}
@@ -12,7 +12,7 @@ use Rattle.tree.proofs.Leaves.{lt-or-le}
 use Rattle.optimum.specs.Key.{maskOf, inMask}
 use Rattle.optimum.proofs.Booleans.{T-eq, and-l, and-r}
 use Rattle.optimum.proofs.Masks.{mask-below, mask-bit, mask-self}
-use Rattle.best.specs.Table.{minus}
+use Rattle.best.specs.Scratch.{minus}
 
 and-digits : (x y : ℕ) → x < 2 → y < 2 → eqb (bitAnd x y) 1 ≡ (eqb x 1 && eqb y 1)
 and-digits zero y h k = refl

@@ -1,4 +1,4 @@
--- Lists that are filled place by place. Assumes nothing.
+-- Lists that are filled place by place.
 use mathlib.Core.Path.{_≡_, ap, _∙_}
 use mathlib.Core.List.{List, _++_, append-nil}
 use Prim.Native.Nat.{ℕ, _+_, _≤_, _<_}

@@ -1,5 +1,4 @@
--- How the seeds before one stand to it, found from the nearest on: what is found of a seed tells of those left of it and under it. Assumes
--- nothing.
+-- How the seeds before one stand to it, found from the nearest on: what is found of a seed tells of those left of it and under it.
 use mathlib.Core.Path.{_≡_, refl, sym, ap, _∙_}
 use mathlib.Core.Bool.{Bool, true, false, _||_, false≢true}
 use mathlib.Core.List.{List, [], _∷_}
@@ -18,7 +17,7 @@ use Rattle.optimum.proofs.Masks.{mask-self}
 use Rattle.best.specs.Stands.{widenedBy, withSeed, standOf, Composed}
 use Rattle.best.specs.declared.stands.Stand.{Stand}
 use Rattle.best.specs.declared.stands.Masks.{Masks}
-use Rattle.best.specs.Table.{minus}
+use Rattle.best.specs.Scratch.{minus}
 use Rattle.best.proofs.Bits.{either, in-either, mask-same, mask-past, alone-has, alone-is, below-has, minus-from, minus-gone}
 use Rattle.best.proofs.Members.{nothing}
 

@@ -6,7 +6,8 @@ pub mod Knowing
 pub mod Ranks
 pub mod Banks
 pub mod Rows
-pub mod Standing
+pub mod Relating
+pub mod Arrays
 pub mod BestChain
 pub mod Listing
 pub mod Answers

@@ -1,4 +1,4 @@
--- The lowest and the highest number of a mask, and the numbers taken off from the lowest on. Assumes nothing.
+-- The lowest and the highest number of a mask, and the numbers taken off from the lowest on.
 use mathlib.Core.Path.{_≡_, refl, sym, ap, ap₂, _∙_}
 use mathlib.Core.Bool.{Bool, true, false, cond, _&&_, false≢true}
 use mathlib.Core.Logic.{_≢_, inl, inr}
@@ -13,7 +13,7 @@ use lib.Dec.{eqb, leb}
 use Rattle.tree.proofs.Leaves.{lt-or-le}
 use Rattle.optimum.specs.Key.{maskOf, inMask}
 use Rattle.optimum.proofs.Masks.{mask-self}
-use Rattle.best.specs.Table.{Lowest, Highest}
+use Rattle.best.specs.Scratch.{Lowest, Highest}
 use Rattle.best.proofs.Bits.{mask-same, mask-has}
 
 -- ---- the lowest number of a mask

@@ -1,4 +1,4 @@
--- The table on the scratch, filled row by row, gives the best key. Assumes nothing.
+-- The table on the scratch, filled row by row, gives the best key.
 use mathlib.Core.Path.{_≡_, refl, sym, ap, ap₂, _∙_, fun-ext}
 use mathlib.Core.Bool.{true, false, _&&_}
 use mathlib.Core.Logic.{inl, inr}
@@ -21,8 +21,9 @@ use Rattle.optimum.proofs.Chains.{best-cong}
 use Rattle.optimum.proofs.Split.{Down, down-under}
 use Rattle.optimum.proofs.Recurrence.{row-next, row-rises, row-best, filled-next}
 use Rattle.optimum.proofs.Bounds.{entry-small, best-small, under-small}
-use Rattle.best.specs.Best.{scoreAt}
-use Rattle.best.specs.Table.{keyAt, items, rows, marked, itemsOf, Rising, entryOf, EntryRoom, RowRoom, RowFilled, Posed, ItemsFilled}
+use Rattle.best.specs.Standing.{numberAt}
+use Rattle.best.specs.Scratch.{keyAt, items, rows, marked, scoreAt, itemsOf, Rising, entryOf, EntryRoom, RowRoom, RowFilled, Posed, ItemsFilled}
+use Rattle.best.specs.declared.standing.Standing.{Standing}
 use Rattle.best.proofs.Bits.{common, all-ones}
 use Rattle.best.proofs.Banks.{put-long, put-beside, put-here, put-before, max-start, max-past, max-turn}
 
@@ -127,9 +128,18 @@ module _ (xs lefts : List ℕ) (row k : ℕ) (h : EntryRoom xs lefts row k) {t m
 
 -- ---- the table
 
-module _ (lefts unders numbers : List ℕ) (scores : List ℤ) (n : ℕ) (h : Posed lefts unders numbers scores n) where
+module _ (s : Standing) (scores : List ℤ) (h : Posed s scores) where
   abbrev S : Items
-  S = itemsOf lefts unders numbers scores
+  S = itemsOf s scores
+
+  abbrev lefts : List ℕ
+  lefts = s .lefts
+
+  abbrev unders : List ℕ
+  unders = s .unders
+
+  abbrev n : ℕ
+  n = s .count
 
   -- A row over the first y items, of those in a mask that has with an item all under it.
   module _ (row : ℕ) (dp : Down S (inMask row) n) (y : ℕ) (b : y ≤ n) (xs : List ℕ) (f : Filled S (keyAt xs items) y) where
@@ -142,7 +152,7 @@ module _ (lefts unders numbers : List ℕ) (scores : List ℤ) (n : ℕ) (h : Po
           long = long;
           before = λ j k a. h .before j k (omega arith);
           clipped = λ k a. rw (f k a) (better-right (better-l empty (withUnder S k)));
-          small = λ d k a on r t m. entry-small S n 64 (scoreAt scores) (λ k. getD numbers k 0) (h .limited) (h .laws) (inMask row) dp (keyAt xs items) d y k b a on f r t m;
+          small = λ d k a on r t m. entry-small S n 64 (scoreAt scores) (numberAt (s .numbers)) (h .limited) (h .laws) (inMask row) dp (keyAt xs items) d y k b a on f r t m;
         }
 
     top : (ys : List ℕ) {best : Key} → RowFilled xs lefts row y ys best → best ≡ bestOf S (inMask row) y
@@ -162,14 +172,14 @@ module _ (lefts unders numbers : List ℕ) (scores : List ℤ) (n : ℕ) (h : Po
         under-is : bestOf S (λ x. S .under x y) y ≡ stored t m
         under-is = sym (top (getD unders y 0) (down-under S n (h .laws) y b) y (omega arith) xs (f .filled) ys g)
 
-        pub item-small : (t ≤ 64000000) × (2 ^ getD numbers y 0 + m < 2 ^ 64)
+        pub item-small : (t ≤ 64000000) × (2 ^ numberAt (s .numbers) y + m < 2 ^ 64)
         item-small = (
-          best-small S n 64 (scoreAt scores) (λ k. getD numbers k 0) (h .limited) (λ x. S .under x y) y (omega arith) t m under-is .total,
-          under-small S n 64 (scoreAt scores) (λ k. getD numbers k 0) (h .limited) y b t m under-is,
+          best-small S n 64 (scoreAt scores) (numberAt (s .numbers)) (h .limited) (λ x. S .under x y) y (omega arith) t m under-is .total,
+          under-small S n 64 (scoreAt scores) (numberAt (s .numbers)) (h .limited) y b t m under-is,
         )
 
         -- One item more.
-        pub item-turn : (zs : List ℕ) (t′ m′ : ℕ) → stored t′ m′ ≡ better empty (seedKey (scoreAt scores) (getD numbers y 0) ⊕ stored t m) → zs ≡ set (set ys (items + y) t′) (items + 64 + y) m′ → ItemsFilled S xs₀ (y + 1) zs
+        pub item-turn : (zs : List ℕ) (t′ m′ : ℕ) → stored t′ m′ ≡ better empty (seedKey (scoreAt scores) (numberAt (s .numbers) y) ⊕ stored t m) → zs ≡ set (set ys (items + y) t′) (items + 64 + y) m′ → ItemsFilled S xs₀ (y + 1) zs
         item-turn zs t′ m′ c q =
             record {
               long = put-long ys zs items y t′ m′ q ∙ g .long ∙ f .long;

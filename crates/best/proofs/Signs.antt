@@ -1,4 +1,4 @@
--- A score and a total, added with their signs: the key of a seed with the chain under it, clipped at the empty chain. Assumes nothing.
+-- A score and a total, added with their signs: the key of a seed with the chain under it, clipped at the empty chain.
 use mathlib.Core.Path.{_≡_, refl, sym, ap, ap₂, _∙_}
 use mathlib.Core.Bool.{Bool, true, false, cond, false≢true, true≢false}
 use Prim.Native.Nat.{ℕ, zero, suc, _+_, _-_, _≤_}

@@ -1,4 +1,5 @@
-pub mod Best
+pub mod Standing
 pub mod Order
 pub mod Stands
-pub mod Table
+pub mod Scratch
+pub mod Best

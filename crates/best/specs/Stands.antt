@@ -1,26 +1,19 @@
--- How seeds stand to one another: the masks of those left of one and of those under it. Assumes nothing.
+-- How seeds stand to one another: the masks of those left of one and of those under it.
 use mathlib.Core.Path.{_≡_}
 use mathlib.Core.Bool.{Bool, true, cond}
 use mathlib.Core.List.{List, [], _∷_}
-use Prim.Native.Nat.{ℕ, _+_, _^_, _≤_, _<_}
+use Prim.Native.Nat.{ℕ, _^_, _≤_, _<_}
 use lib.Bits.{bitOr}
 use lib.ListN.{length, getD}
 use Rattle.seed.specs.AreaList.{left, under}
-use Rattle.seed.specs.Pairs.{pairOf, pairsOf}
+use Rattle.seed.specs.Pairs.{pairOf}
 use Rattle.seed.specs.Seed.{lastPair}
-use Rattle.seed.specs.Store.{between}
 use Rattle.seed.specs.declared.Pair.{Pair}
 use Rattle.optimum.specs.Key.{maskOf, inMask}
-use Rattle.best.specs.Order.{Bounded, lastOf}
+use Rattle.best.specs.Standing.{numberAt}
+use Rattle.best.specs.Order.{pairsBy}
 use Rattle.best.specs.declared.stands.Stand.{Stand}
 use Rattle.best.specs.declared.stands.Masks.{Masks}
-
--- The nodes of seed i in one tree, and its pairs, from the lists of a store.
-unfoldable pub nodesOf : List ℕ → List ℕ → ℕ → List ℕ
-nodesOf nodes bounds i = between nodes (getD bounds i 0) (getD bounds (i + 1) 0)
-
-unfoldable pub pairsIn : List ℕ → List ℕ → List ℕ → ℕ → List Pair
-pairsIn qs ts bounds i = pairsOf (nodesOf qs bounds i) (nodesOf ts bounds i)
 
 -- How seed s stands to seed u.
 abbrev pub standOf : List ℕ → List ℕ → List Pair → List Pair → Stand
@@ -30,31 +23,19 @@ standOf Q T s u = record { left = left Q T s u; under = under Q T s u }
 unfoldable pub masksOf : List ℕ → List ℕ → (ℕ → List Pair) → List Pair → ℕ → Masks
 masksOf Q T seed u n = record { left = maskOf (λ x. left Q T (seed x) u) n; under = maskOf (λ x. under Q T (seed x) u) n }
 
--- The first m of a list are numbers of seeds that the lists of a store have in one tree, and in both.
-pub record Listed (nodes bounds numbers : List ℕ) (m : ℕ) : Type 0 where
-  pub few : m ≤ 64
-  pub long : m ≤ length numbers
-  pub bounded : (k : ℕ) → k < m → Bounded nodes bounds (getD numbers k 0)
+-- The pairs of the seed whose number a list has at k, from the arrays that hold them.
+abbrev pub seedBy : List ℕ → List ℕ → List ℕ → List ℕ → ℕ → List Pair
+seedBy qs ts bounds numbers k = pairsBy qs ts bounds (numberAt numbers k)
 
-pub record Placed (qs ts bounds numbers : List ℕ) (m : ℕ) : Type 0 where
-  pub listed-q : Listed qs bounds numbers m
-  pub listed-t : Listed ts bounds numbers m
-
--- The last node of each of them.
-pub record Lasts (nodes bounds numbers : List ℕ) (m : ℕ) (last : List ℕ) : Type 0 where
-  pub long : length last ≡ 64
-  pub are : (k : ℕ) → k < m → getD last k 0 ≡ lastOf nodes bounds (getD numbers k 0)
+-- The last pair of each of the first m seeds of a list.
+pub record Lasts (seed : ℕ → List Pair) (m : ℕ) (rq rt : List ℕ) : Type 0 where
+  pub long-q : length rq ≡ 64
+  pub long-t : length rt ≡ 64
+  pub are : (k : ℕ) → k < m → pairOf (getD rq k 0) (getD rt k 0) ≡ lastPair (seed k)
 
 -- A seed of one pair: the last pair of the seed at k.
 abbrev pub alone : List ℕ → List ℕ → ℕ → List Pair
 alone rq rt k = pairOf (getD rq k 0) (getD rt k 0) ∷ []
-
--- Lists of last nodes reach to y, and there have the last pair of the seed of uq and ut.
-pub record LastAt (uq ut rq rt : List ℕ) (y : ℕ) : Type 0 where
-  pub few : y < 64
-  pub long-q : y < length rq
-  pub long-t : y < length rt
-  pub is : pairOf (getD rq y 0) (getD rt y 0) ≡ lastPair (pairsOf uq ut)
 
 -- A mask, if it is on, with k and with the numbers of another mask.
 unfoldable pub widenedBy : ℕ → Bool → ℕ → ℕ → ℕ
@@ -80,10 +61,6 @@ pub record Lawful (Q T : List ℕ) (seed : ℕ → List Pair) (m : ℕ) : Type 0
   pub under-left : (x y z : ℕ) → x < m → y < m → z < m → under Q T (seed x) (seed y) ≡ true → left Q T (seed y) (seed z) ≡ true → left Q T (seed x) (seed z) ≡ true
   pub under-under : (x y z : ℕ) → x < m → y < m → z < m → under Q T (seed x) (seed y) ≡ true → under Q T (seed y) (seed z) ≡ true → under Q T (seed x) (seed z) ≡ true
   pub never-both : (x y : ℕ) → x < m → y < m → left Q T (seed x) (seed y) ≡ true → under Q T (seed x) (seed y) ≡ true → ⊥
-
--- The pairs of the seed whose number a list has at k.
-abbrev pub seedAt : List ℕ → List ℕ → List ℕ → List ℕ → ℕ → List Pair
-seedAt qs ts bounds numbers k = pairsIn qs ts bounds (getD numbers k 0)
 
 -- The masks of the first m seeds of a list: for each, of those before it.
 pub record Related (Q T : List ℕ) (seed : ℕ → List Pair) (m : ℕ) (lefts unders : List ℕ) : Type 0 where

@@ -6,7 +6,7 @@ ghost use lib.ListN.{length, set, replicate};
 ghost use Rattle.optimum.specs.Key.{empty, better, _⊕_, inMask};
 ghost use Rattle.optimum.specs.Table.{stored};
 ghost use Rattle.seed.specs.Tab.{tab};
-ghost use Rattle.best.specs.Table.{Lowest, Highest, minus, keyAt};
+ghost use Rattle.best.specs.Scratch.{Lowest, Highest, minus, keyAt};
 
 // The total of a chain and the mask of its numbers.
 pub struct Stored {

@@ -2,18 +2,20 @@
 use super::keys::bit;
 use super::keys::highest;
 use super::keys::without;
-use super::order::last_of;
+use super::order::Order;
+use super::order::last_at;
 use seed::Pair;
+use seed::last_pair;
 use seed::leaf_at;
 use seed::stands::fits;
+use table::nodes_of;
 ghost use mathlib.Core.Path.{_≡_};
 ghost use mathlib.Core.List.{[], _∷_};
-ghost use Prim.Native.Nat.{_<_};
+ghost use Prim.Native.Nat.{_≤_, _<_};
 ghost use lib.ListN.{getD};
 ghost use Rattle.seed.specs.Pairs.{pairOf, pairsOf};
 ghost use Rattle.seed.specs.Seed.{lastPair};
-ghost use Rattle.best.specs.Order.{Bounded};
-ghost use Rattle.best.specs.Stands.{nodesOf, standOf, masksOf, widenedBy, withSeed, alone, seedAt, Listed, Lasts, LastAt, Composed, Placed, Lawful, Related};
+ghost use Rattle.best.specs.Stands.{standOf, masksOf, widenedBy, withSeed, alone, seedBy, Lasts, Composed, Lawful, Related};
 
 // Whether a seed stands left of another, and whether under it.
 pub struct Stand {
@@ -27,20 +29,16 @@ pub struct Masks {
     pub under: u64,
 }
 
+// The last pairs of the seeds of a list, by their q and their t.
+pub struct LastPairs {
+    pub qs: [u8; 64],
+    pub ts: [u8; 64],
+}
+
 // The masks of each seed of a list.
 pub struct Relation {
     pub lefts: [u64; 64],
     pub unders: [u64; 64],
-}
-
-// The nodes of seed i in one tree.
-fn nodes_of<'a>(nodes: &'a [u8], bounds: &[u16], i: usize) -> &'a [u8]
-    requires { ⌜ Bounded (now nodes) (now bounds) i ⌝ }
-    ensures { λ r. ⌜ now r ≡ nodesOf (now (nodes .entry)) (now (bounds .entry)) i ⌝ }
-{
-    let from = bounds[i] as usize;
-    let to = bounds[i + 1] as usize;
-    &nodes[from..to]
 }
 
 // How a seed whose last pair is s stands to the seed of uq and ut, whose last pair is u.
@@ -71,22 +69,28 @@ fn widened(mask: u64, on: bool, k: usize, more: u64) -> u64
     mask
 }
 
-// The last node of each seed of a list.
-fn lasts(nodes: &[u8], bounds: &[u16], numbers: &[u8], count: usize) -> [u8; 64]
-    requires { ⌜ Listed (now nodes) (now bounds) (now numbers) count ⌝ }
-    ensures { λ r. ⌜ Lasts (now (nodes .entry)) (now (bounds .entry)) (now (numbers .entry)) count r ⌝ }
+// The last pair of each seed of a list.
+fn lasts<'a>(qs: &'a [u8], ts: &'a [u8], bounds: &'a [u16], order: Order) -> LastPairs
+    requires { ⌜ order .count ≤ 64 ⌝ }
+    ensures { λ r. ⌜ Lasts (seedBy (now (qs .entry)) (now (ts .entry)) (now (bounds .entry)) (order .numbers)) (order .count) (r .qs) (r .ts) ⌝ }
 {
-    let mut last = [0u8; 64];
+    let mut last_qs = [0u8; 64];
+    let mut last_ts = [0u8; 64];
     let mut k = 0;
-    while k < count {
-        last[k] = last_of(nodes, bounds, numbers[k] as usize);
+    while k < order.count {
+        let last = last_at(qs, ts, bounds, order.numbers[k] as usize);
+        last_qs[k] = last.q;
+        last_ts[k] = last.t;
         k += 1;
     }
-    last
+    LastPairs {
+        qs: last_qs,
+        ts: last_ts,
+    }
 }
 
 // The last pair of the seed at place k.
-fn last_pair(rq: &[u8; 64], rt: &[u8; 64], k: usize) -> Pair
+fn last_in(rq: &[u8; 64], rt: &[u8; 64], k: usize) -> Pair
     requires { ⌜ k < 64 ⌝ }
     ensures { λ r. ⌜ r ≡ pairOf (getD (now (rq .entry)) k 0) (getD (now (rt .entry)) k 0) ⌝ }
 {
@@ -120,15 +124,15 @@ fn masks_at(
     unders: &[u64; 64],
     y: usize,
 ) -> Masks
-    requires { ⌜ LastAt (now uq) (now ut) (now rq) (now rt) y ⌝ ∗ ⌜ Composed (now lq) (now lt) (alone (now rq) (now rt)) (pairsOf (now uq) (now ut)) (now lefts) (now unders) y ⌝ }
+    requires { ⌜ y < 64 ⌝ ∗ ⌜ Composed (now lq) (now lt) (alone (now rq) (now rt)) (pairsOf (now uq) (now ut)) (now lefts) (now unders) y ⌝ }
     ensures { λ r. ⌜ r ≡ masksOf (now (lq .entry)) (now (lt .entry)) (alone (now (rq .entry)) (now (rt .entry))) (pairsOf (now (uq .entry)) (now (ut .entry))) y ⌝ }
 {
-    let u = last_pair(rq, rt, y);
+    let u = last_pair(uq, ut);
     let mut masks = Masks { left: 0, under: 0 };
     let mut rest = bit(y) - 1;
     while rest != 0 {
         let k = highest(rest);
-        let stand = stands_to(lq, lt, uq, ut, u, last_pair(rq, rt, k));
+        let stand = stands_to(lq, lt, uq, ut, u, last_in(rq, rt, k));
         masks = with_seed(masks, stand, k, lefts, unders);
         rest = without(rest, bit(k) | masks.left | masks.under);
     }
@@ -136,25 +140,25 @@ fn masks_at(
 }
 
 // The masks of every seed of a list.
-pub fn relate(
+pub fn relate<'a>(
     lq: &[u8],
     lt: &[u8],
-    qs: &[u8],
-    ts: &[u8],
-    bounds: &[u16],
-    numbers: &[u8],
-    count: usize,
+    qs: &'a [u8],
+    ts: &'a [u8],
+    bounds: &'a [u16],
+    order: Order,
 ) -> Relation
-    requires { ⌜ Placed (now qs) (now ts) (now bounds) (now numbers) count ⌝ ∗ ⌜ Lawful (now lq) (now lt) (seedAt (now qs) (now ts) (now bounds) (now numbers)) count ⌝ }
-    ensures { λ r. ⌜ Related (now (lq .entry)) (now (lt .entry)) (seedAt (now (qs .entry)) (now (ts .entry)) (now (bounds .entry)) (now (numbers .entry))) count (r .lefts) (r .unders) ⌝ }
+    requires { ⌜ order .count ≤ 64 ⌝ ∗ ⌜ Lawful (now lq) (now lt) (seedBy (now qs) (now ts) (now bounds) (order .numbers)) (order .count) ⌝ }
+    ensures { λ r. ⌜ Related (now (lq .entry)) (now (lt .entry)) (seedBy (now (qs .entry)) (now (ts .entry)) (now (bounds .entry)) (order .numbers)) (order .count) (r .lefts) (r .unders) ⌝ }
 {
-    let rq = lasts(qs, bounds, numbers, count);
-    let rt = lasts(ts, bounds, numbers, count);
+    let last = lasts(qs, ts, bounds, order);
+    let rq = last.qs;
+    let rt = last.ts;
     let mut lefts = [0u64; 64];
     let mut unders = [0u64; 64];
     let mut y = 0;
-    while y < count {
-        let i = numbers[y] as usize;
+    while y < order.count {
+        let i = order.numbers[y] as usize;
         let uq = nodes_of(qs, bounds, i);
         let ut = nodes_of(ts, bounds, i);
         let m = masks_at(lq, lt, uq, ut, &rq, &rt, &lefts, &unders, y);

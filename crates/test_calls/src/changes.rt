@@ -2,7 +2,7 @@
 use answer::Answer;
 use chain::Changed;
 use chain::Session;
-use lent::PairList;
+use test_lent::PairList;
 use seed::Pair;
 use test_words::Text;
 use test_words::answers::with_answer;
@@ -123,7 +123,7 @@ pub fn add_lent(session: Session, s: &[u8], at: usize) -> Done
     let ts = p.ts;
     let last = after_score(s, at);
     let count = larger(p.count, number_or(s, next(s, last), 0));
-    let r = lent::add_from(session, lendable(qs, ts, count), score(s, last));
+    let r = test_lent::add_from(session, lendable(qs, ts, count), score(s, last));
     let answer = r.answer;
     let later = r.session;
     numbered(later, answer, r.number)
@@ -135,9 +135,9 @@ pub fn moved(session: Session, number: usize, to: bool) -> Changed
     ensures { λ r. ⌜ Sound (r .session) ⌝ }
 {
     if to {
-        return session.bring_back(number);
+        return session.brought_back(number);
     }
-    session.withdraw(number)
+    session.withdrawn(number)
 }
 
 // withdraw NUMBER, and back NUMBER
@@ -161,5 +161,5 @@ pub fn rescore_lent(session: Session, s: &[u8], at: usize) -> Done
     requires { ⌜ Sound session ⌝ }
     ensures { λ r. ⌜ Sound (r .session) ⌝ }
 {
-    said(lent::rescore_by_reference(session, number(s, at), score(s, next(s, at))))
+    said(test_lent::rescore_by_reference(session, number(s, at), score(s, next(s, at))))
 }

@@ -1,5 +1,7 @@
--- `best::best_chain` meets its contract. Assumes nothing.
-use Rattle.best.proofs.Answers.{best-refused, best-accepted}
+-- `best::best_chain` meets its contract: the seeds as they stand, and the table on the scratch.
+use mathlib.Core.Path.{_∙_}
+use native.Mathlib.Omega.{arith}
+use Rattle.best.proofs.Answers.{best-refused, best-accepted, table-posed, table-key}
 use borrow.Author.Needs.{needs}
 use Rattle.best.proofs.best_chain.Statement.{statement}
 use Rattle.best.proofs.best_chain.Tie as tie
@@ -8,10 +10,16 @@ too-short-requires : tie.Need-too-short-requires
 too-short-requires c κs = search needs
 
 returns : tie.Need-returns
-returns c = rw (c .too-short .ensures) (best-refused _ _ _ _ _ _ _ (c .before .if1 .taken))
+returns c = rw (c .too-short .ensures) (best-refused _ _ _ _ (c .before .if1 .taken))
 
-best-key-requires : tie.Need-best-key-requires
-best-key-requires c κs = search needs
+stood-requires : tie.Need-stood-requires
+stood-requires c κs = search needs
+
+solve-requires : tie.Need-solve-requires
+solve-requires c κs =
+    let stood = c .before .before .before in
+    let long = stood .before in
+    (table-posed _ _ _ (long .before .before .pre) _ (stood .stood .ensures), omega (arith, long .if1 .left))
 
 clear-requires : tie.Need-clear-requires
 clear-requires c κs = search needs
@@ -25,9 +33,10 @@ same-length c = search needs
 returns-2 : tie.Need-returns-2
 returns-2 c =
     let clear = c .before .before .before in
-    let best-key = clear .before .before .before .before in
-    let long = best-key .before .before in
-    best-accepted _ _ _ _ _ _ _ ((best-key .best-key .last .1 .1 .1 .1 .1 .1 .0)) _ _ _ _ (long .if1 .left) (best-key .best-key .ensures) (c .unpacked .ensures) ((best-key .best-key .kept .1 .1 .1 .1 .1 .1 .0)) (clear .clear .ensures)
+    let solve = clear .before .before .before .before in
+    let stood = solve .before .before .before .before in
+    let long = stood .before in
+    best-accepted _ _ _ _ (solve .solve .last .0) _ _ _ _ (long .if1 .left) (solve .solve .ensures ∙ table-key _ _ _ (long .before .before .pre) _ (stood .stood .ensures)) (c .unpacked .ensures) (solve .solve .kept .0) (clear .clear .ensures)
 
 pub best-chain-spec : {M : Type 1} → statement M
 best-chain-spec =
@@ -35,7 +44,8 @@ best-chain-spec =
     (tie.spec
     too-short-requires
     returns
-    best-key-requires
+    stood-requires
+    solve-requires
     clear-requires
     unpacked-requires
     same-length

@@ -1,4 +1,4 @@
--- `best::keys::better_of` meets its contract. Assumes nothing.
+-- `best::keys::better_of` meets its contract.
 use mathlib.Core.Path.{sym}
 use native.Mathlib.Omega.{arith}
 use Rattle.optimum.proofs.StoredKeys.{take-greater, take-equal, leave-less, leave-equal}

@@ -1,4 +1,4 @@
--- `best::keys::bit` meets its contract. Assumes nothing.
+-- `best::keys::bit` meets its contract.
 use native.Mathlib.Nat.{mod-eq-of-lt, one-mul}
 use lib.Pow.{pow-lt}
 use borrow.Author.Needs.{needs}

@@ -1,4 +1,4 @@
--- `best::keys::clear` meets its contract. Assumes nothing.
+-- `best::keys::clear` meets its contract.
 use Prim.Native.Nat.{_≤_, _-_}
 use mathlib.Core.Path.{_≡_, refl}
 use mathlib.Core.List.{_++_}

@@ -1,4 +1,4 @@
--- `best::keys::clipped` meets its contract. Assumes nothing.
+-- `best::keys::clipped` meets its contract.
 use mir.Facts.{toZ-ofZ, sfits-widen}
 use Rattle.best.proofs.Signs.{sum-fits, sum-plain, sum-back, sum-natural, clip-taken, clip-left}
 use borrow.Author.Needs.{needs}

@@ -1,4 +1,4 @@
--- `best::keys::has` meets its contract. Assumes nothing.
+-- `best::keys::has` meets its contract.
 use mathlib.Core.Path.{refl}
 use Rattle.optimum.specs.Key.{inMask}
 use borrow.Author.Needs.{needs}

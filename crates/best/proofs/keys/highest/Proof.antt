@@ -1,4 +1,4 @@
--- `best::keys::highest` meets its contract. Assumes nothing.
+-- `best::keys::highest` meets its contract.
 use native.Mathlib.Omega.{arith}
 use lib.Count.{leading-le}
 use Rattle.best.proofs.Members.{highest-is, some-digit}

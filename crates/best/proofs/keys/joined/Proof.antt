@@ -1,4 +1,4 @@
--- `best::keys::joined` meets its contract. Assumes nothing.
+-- `best::keys::joined` meets its contract.
 use mathlib.Core.Path.{sym}
 use Rattle.optimum.proofs.StoredKeys.{stored-add}
 use borrow.Author.Needs.{needs}

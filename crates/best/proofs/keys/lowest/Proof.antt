@@ -1,4 +1,4 @@
--- `best::keys::lowest` meets its contract. Assumes nothing.
+-- `best::keys::lowest` meets its contract.
 use native.Mathlib.Omega.{arith}
 use lib.Count.{trailing-le}
 use Rattle.best.proofs.Members.{lowest-is}

@@ -1,4 +1,4 @@
--- `best::keys::put` meets its contract. Assumes nothing.
+-- `best::keys::put` meets its contract.
 use native.Mathlib.Omega.{arith}
 use lib.ListN.{length-set}
 use borrow.Author.Needs.{needs}

@@ -1,4 +1,4 @@
--- `best::keys::unpacked` meets its contract. Assumes nothing.
+-- `best::keys::unpacked` meets its contract.
 use Prim.Native.Nat.{ℕ, _≤_, _<_, _-_}
 use mathlib.Core.Path.{_≡_, subst⁻¹}
 use mathlib.Core.Bool.{false}

@@ -1,4 +1,4 @@
--- `best::keys::without` meets its contract. Assumes nothing.
+-- `best::keys::without` meets its contract.
 use Rattle.best.proofs.Bits.{minus-is}
 use Rattle.best.proofs.keys.without.Statement.{statement}
 use Rattle.best.proofs.keys.without.Tie as tie

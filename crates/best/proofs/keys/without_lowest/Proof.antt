@@ -1,4 +1,4 @@
--- `best::keys::without_lowest` meets its contract. Assumes nothing.
+-- `best::keys::without_lowest` meets its contract.
 use borrow.Author.Needs.{needs}
 use Rattle.best.proofs.Members.{lowest-off}
 use Rattle.best.proofs.keys.without_lowest.Statement.{statement}

@@ -1,6 +1,6 @@
--- `best::stands::masks_at` meets its contract: the highest is looked at, and taken off with what it tells of. Assumes nothing.
+-- `best::stands::masks_at` meets its contract: the highest is looked at, and taken off with what it tells of.
 use Prim.Native.Nat.{_^_, _<_}
-use mathlib.Core.Path.{ap, _∙_}
+use mathlib.Core.Path.{ap}
 use mathlib.Core.List.{[], _∷_}
 use native.Mathlib.Omega.{arith}
 use lib.Pow.{pow-lt, pow-pos}
@@ -10,7 +10,7 @@ use Rattle.seed.specs.declared.Pair.{Pair}
 use Rattle.best.specs.Stands.{alone}
 use Rattle.best.proofs.Bits.{minus-small, minus-less, taken-off-with}
 use Rattle.best.proofs.Knowing.{Known, known-start, known-with, known-left, known-under}
-use Rattle.best.proofs.Standing.{masks-are}
+use Rattle.best.proofs.Relating.{masks-are}
 use borrow.Author.Needs.{needs}
 use Rattle.best.proofs.stands.masks_at.Statement.{statement}
 use Rattle.best.proofs.stands.masks_at.Tie as tie
@@ -22,28 +22,25 @@ abbrev μ-loop : tie.MeasureT-loop
 μ-loop lq lt uq ut rq rt lefts unders y u masks₀ rest₀ masks rest = rest
 
 last-pair-requires : tie.Need-last-pair-requires Inv-loop μ-loop
-last-pair-requires c κs = c .before .before .before .before .pre .0 .few
+last-pair-requires c κs = search needs
 
 bit-requires : tie.Need-bit-requires Inv-loop μ-loop
-bit-requires c κs = c .before .before .before .before .before .pre .0 .few
+bit-requires c κs = c .before .before .before .before .before .pre .0
 
 sub-rest : tie.Need-sub-rest Inv-loop μ-loop
 sub-rest c = rw (c .bit .ensures) (pow-pos _)
 
 loop-holds : tie.Need-loop-holds Inv-loop μ-loop
-loop-holds c = rw (c .bit .ensures) (omega arith, omega arith, omega (arith, pow-lt (c .before .before .before .before .before .before .pre .0 .few)), known-start _ _ _)
+loop-holds c = rw (c .bit .ensures) (omega arith, omega arith, omega (arith, pow-lt (c .before .before .before .before .before .before .pre .0)), known-start _ _ _)
 
 highest-requires : tie.Need-highest-requires Inv-loop μ-loop
 highest-requires c κs = c .loop-test .taken
 
-last-pair-requires-2 : tie.Need-last-pair-requires-2 Inv-loop μ-loop
-last-pair-requires-2 c κs = c .highest .ensures .few
+last-in-requires : tie.Need-last-in-requires Inv-loop μ-loop
+last-in-requires c κs = c .highest .ensures .few
 
 stands-to-requires : tie.Need-stands-to-requires Inv-loop μ-loop
-stands-to-requires c κs =
-    let last-pair = c .before .before .before .before .before in
-    let start = last-pair .before .before .before .before .before in
-    last-pair .last-pair .ensures ∙ start .pre .0 .is
+stands-to-requires c κs = c .before .before .before .before .before .last-pair .ensures
 
 with-seed-requires : tie.Need-with-seed-requires Inv-loop μ-loop
 with-seed-requires c κs = c .before .before .highest .ensures .few
@@ -67,14 +64,14 @@ loop-again c =
       search needs,
       search needs,
       rw (c .without .ensures) (minus-small _ _),
-      known-with _ _ _ _ _ _ _ (pre .1) (inv .3) (omega (arith, pre .0 .few)) _ (top .highest .ensures .has) _ _ (c .before .before .before .before .before .stands-to .ensures) (ap (λ (s : Pair). s ∷ []) (c .before .before .before .before .before .before .last-pair2 .ensures)) (c .before .before .before .before .with-seed .ensures) (rw (c .before .before .before .bit2 .ensures) at (c .without .ensures)),
+      known-with _ _ _ _ _ _ _ (pre .1) (inv .3) (omega (arith, pre .0)) _ (top .highest .ensures .has) _ _ (c .before .before .before .before .before .stands-to .ensures) (ap (λ (s : Pair). s ∷ []) (c .before .before .before .before .before .before .last-in .ensures)) (c .before .before .before .before .with-seed .ensures) (rw (c .before .before .before .bit2 .ensures) at (c .without .ensures)),
     )
 
 returns : tie.Need-returns Inv-loop μ-loop
 returns c =
     let inv = c .before .loop .inv in
     let pre = c .before .before .before .before .before .before .before .before .pre in
-    masks-are _ _ _ _ _ (known-left (inv .3) (c .loop-test .left) (omega (arith, pre .0 .few)) (inv .0)) (known-under (inv .3) (c .loop-test .left) (omega (arith, pre .0 .few)) (inv .1))
+    masks-are _ _ _ _ _ (known-left (inv .3) (c .loop-test .left) (omega (arith, pre .0)) (inv .0)) (known-under (inv .3) (c .loop-test .left) (omega (arith, pre .0)) (inv .1))
 
 pub masks-at-spec : {M : Type 1} → statement M
 masks-at-spec =
@@ -87,7 +84,7 @@ masks-at-spec =
     sub-rest
     loop-holds
     highest-requires
-    last-pair-requires-2
+    last-in-requires
     stands-to-requires
     with-seed-requires
     bit-requires-2

@@ -1,9 +1,9 @@
--- `best::stands::stands_to` meets its contract. Assumes nothing.
+-- `best::stands::stands_to` meets its contract.
 use mathlib.Core.Path.{ap}
 use lib.Dec.{ltb}
 use native.Mathlib.Omega.{arith}
 use borrow.Author.Needs.{needs}
-use Rattle.best.proofs.Standing.{stands-before, stands-behind}
+use Rattle.best.proofs.Relating.{stands-before, stands-behind}
 use Rattle.best.proofs.stands.stands_to.Statement.{statement}
 use Rattle.best.proofs.stands.stands_to.Tie as tie
 

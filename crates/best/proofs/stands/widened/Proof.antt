@@ -1,4 +1,4 @@
--- `best::stands::widened` meets its contract. Assumes nothing.
+-- `best::stands::widened` meets its contract.
 use borrow.Author.Needs.{needs}
 use Rattle.best.specs.Stands.{widenedBy}
 use Rattle.best.proofs.stands.widened.Statement.{statement}

@@ -1,4 +1,4 @@
--- `best::stands::with_seed` meets its contract. Assumes nothing.
+-- `best::stands::with_seed` meets its contract.
 use native.Mathlib.Omega.{arith}
 use Rattle.best.proofs.stands.with_seed.Statement.{statement}
 use Rattle.best.proofs.stands.with_seed.Tie as tie

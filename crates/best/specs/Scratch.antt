@@ -1,16 +1,16 @@
 -- The table on the scratch: keys in banks of 64 totals and 64 masks, over items of which masks say what stands left of them and under them.
--- Assumes nothing.
 use mathlib.Core.Path.{_≡_}
 use mathlib.Core.Bool.{Bool, true, false, not, _&&_}
 use mathlib.Core.List.{List}
 use Prim.Native.Nat.{ℕ, _+_, _≤_, _<_}
 use lib.Bits.{bitAnd}
 use lib.Dec.{T}
-use lib.IntN.{ℤ}
+use lib.IntN.{ℤ, pos}
 use lib.ListN.{length, getD}
 use Rattle.optimum.specs.Key.{Key, empty, _⊕_, better, seedKey, maskOf, inMask}
 use Rattle.optimum.specs.Table.{Items, Laws, Limited, maxBelow, Filled, Row, stored, Small}
-use Rattle.best.specs.Best.{scoreAt}
+use Rattle.best.specs.Standing.{numberAt}
+use Rattle.best.specs.declared.standing.Standing.{Standing}
 
 -- The key at place k of the bank that begins at base.
 abbrev pub keyAt : List ℕ → ℕ → ℕ → Key
@@ -43,9 +43,13 @@ minus mask other = maskOf (λ j. inMask mask j && not (inMask other j)) 64
 abbrev pub marked : List ℕ → ℕ → ℕ → Bool
 marked masks x y = inMask (getD masks y 0) x
 
--- The items of a list of seed numbers, by the masks of each.
-abbrev pub itemsOf : List ℕ → List ℕ → List ℕ → List ℤ → Items
-itemsOf lefts unders numbers scores = record { left = marked lefts; under = marked unders; worth = λ k. seedKey (scoreAt scores) (getD numbers k 0) }
+-- The score that an array has at i.
+abbrev pub scoreAt : List ℤ → ℕ → ℤ
+scoreAt scores i = getD scores i (pos 0)
+
+-- The items of a list of seeds, by the masks of each.
+abbrev pub itemsOf : Standing → List ℤ → Items
+itemsOf s scores = record { left = marked (s .lefts); under = marked (s .unders); worth = λ k. seedKey (scoreAt scores) (numberAt (s .numbers) k) }
 
 -- Of the items in a mask none is better in the row at hand than one that it is left of.
 pub record Rising (xs lefts : List ℕ) (mask : ℕ) : Type 0 where
@@ -83,13 +87,13 @@ pub record RowFilled (xs lefts : List ℕ) (row n : ℕ) (ys : List ℕ) (best :
   pub best-is : best ≡ maxBelow (inMask row) (keyAt ys rows) n
 
 -- What the table takes: the laws of left and under, and numbers and scores in bounds.
-pub record Posed (lefts unders numbers : List ℕ) (scores : List ℤ) (n : ℕ) : Type 0 where
-  pub lefts-long : n ≤ length lefts
-  pub unders-long : n ≤ length unders
-  pub numbers-long : n ≤ length numbers
-  pub before : (j k : ℕ) → k < n → T (marked lefts j k) → j < k
-  pub laws : Laws (itemsOf lefts unders numbers scores) n
-  pub limited : Limited 64 (scoreAt scores) (λ k. getD numbers k 0) (itemsOf lefts unders numbers scores .worth) n
+pub record Posed (s : Standing) (scores : List ℤ) : Type 0 where
+  pub lefts-long : s .count ≤ length (s .lefts)
+  pub unders-long : s .count ≤ length (s .unders)
+  pub numbers-long : s .count ≤ length (s .numbers)
+  pub before : (j k : ℕ) → k < s .count → T (marked (s .lefts) j k) → j < k
+  pub laws : Laws (itemsOf s scores) (s .count)
+  pub limited : Limited 64 (scoreAt scores) (numberAt (s .numbers)) (itemsOf s scores .worth) (s .count)
 
 -- The scratch held xs and holds ys, with the keys of the first n items.
 pub record ItemsFilled (S : Items) (xs : List ℕ) (n : ℕ) (ys : List ℕ) : Type 0 where

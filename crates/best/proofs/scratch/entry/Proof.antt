@@ -1,8 +1,8 @@
--- `best::table::entry` meets its contract. Assumes nothing.
+-- `best::scratch::entry` meets its contract.
 use native.Mathlib.Omega.{arith}
 use Rattle.best.proofs.Rows.{entry-room, entry-joined}
-use Rattle.best.proofs.table.entry.Statement.{statement}
-use Rattle.best.proofs.table.entry.Tie as tie
+use Rattle.best.proofs.scratch.entry.Statement.{statement}
+use Rattle.best.proofs.scratch.entry.Tie as tie
 
 mul-best-in : tie.Need-mul-best-in
 mul-best-in c = omega (arith, c .before .before .pre .few)

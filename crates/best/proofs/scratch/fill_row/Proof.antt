@@ -1,12 +1,12 @@
--- `best::table::fill_row` meets its contract: the members are taken off from the lowest on. Assumes nothing.
+-- `best::scratch::fill_row` meets its contract: the members are taken off from the lowest on.
 use Prim.Native.Nat.{ℕ, _+_, _≤_}
 use native.Mathlib.Omega.{arith}
 use Rattle.optimum.specs.Table.{stored}
-use Rattle.best.specs.Table.{RowFilled}
+use Rattle.best.specs.Scratch.{RowFilled}
 use Rattle.best.proofs.Members.{Left, left-start, left-none, left-past, left-from, left-has, left-less, left-next}
 use Rattle.best.proofs.Rows.{row-start, row-room, row-turn, row-past}
-use Rattle.best.proofs.table.fill_row.Statement.{statement}
-use Rattle.best.proofs.table.fill_row.Tie as tie
+use Rattle.best.proofs.scratch.fill_row.Statement.{statement}
+use Rattle.best.proofs.scratch.fill_row.Tie as tie
 
 abbrev Inv-loop : tie.InvT-loop
 Inv-loop scratch₀ lefts row n best₀ rest₀ scratch best rest = (k : ℕ) × (k ≤ n) × Left row k rest × RowFilled scratch₀ lefts row k scratch (stored (best .total) (best .mask))

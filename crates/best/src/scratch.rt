@@ -1,4 +1,4 @@
-// The table by which the best chain is found: for each item the best chain under it, and a row of the items left of one another.
+// The table on the scratch by which the best chain is found: for each item the best chain under it, and a row of the items left of one another.
 use super::keys::Stored;
 use super::keys::better_of;
 use super::keys::bit;
@@ -10,13 +10,14 @@ use super::keys::lowest;
 use super::keys::put;
 use super::keys::without;
 use super::keys::without_lowest;
+use super::standing::Standing;
 ghost use mathlib.Core.Path.{_≡_};
 ghost use mathlib.Core.Bool.{true};
 ghost use Prim.Native.Nat.{_≤_};
 ghost use lib.ListN.{length};
 ghost use Rattle.optimum.specs.Key.{inMask};
 ghost use Rattle.optimum.specs.Table.{bestOf, maxBelow, stored};
-ghost use Rattle.best.specs.Table as spec;
+ghost use Rattle.best.specs.Scratch as spec;
 
 // Where the bank begins that has each item's key with the best chain under it.
 const ITEMS: usize = 0;
@@ -74,40 +75,27 @@ fn fill_row(scratch: &mut [u64], lefts: &[u64], row: u64, n: usize) -> Stored
     best
 }
 
-// Fills in the key of each of the first n items with the best chain under it.
-fn fill_items(
-    scratch: &mut [u64],
-    lefts: &[u64],
-    unders: &[u64],
-    numbers: &[u8],
-    scores: [i32; 64],
-    n: usize,
-)
-    requires { ⌜ spec.Posed (now lefts) (now unders) (now numbers) scores n ⌝ ∗ ⌜ 256 ≤ length (now scratch) ⌝ }
-    ensures { λ r. ⌜ spec.ItemsFilled (spec.itemsOf (now (lefts .entry)) (now (unders .entry)) (now (numbers .entry)) scores) (now (scratch .entry)) n (now (scratch .exit)) ⌝ }
+// Fills in the key of each item with the best chain under it.
+fn fill_items(scratch: &mut [u64], standing: Standing, scores: &[i32; 64])
+    requires { ⌜ spec.Posed standing (now scores) ⌝ ∗ ⌜ 256 ≤ length (now scratch) ⌝ }
+    ensures { λ r. ⌜ spec.ItemsFilled (spec.itemsOf standing (now (scores .entry))) (now (scratch .entry)) (standing .count) (now (scratch .exit)) ⌝ }
 {
+    let lefts = standing.lefts;
     let mut y = 0;
-    while y < n {
-        let under = fill_row(scratch, lefts, unders[y], y);
-        let number = numbers[y] as usize;
+    while y < standing.count {
+        let under = fill_row(scratch, &lefts, standing.unders[y], y);
+        let number = standing.numbers[y] as usize;
         let key = clipped(scores[number], bit(number), under);
         put(scratch, ITEMS, y, key);
         y += 1;
     }
 }
 
-// The best key of a chain of the first n items.
-pub fn solve(
-    scratch: &mut [u64],
-    lefts: &[u64],
-    unders: &[u64],
-    numbers: &[u8],
-    scores: [i32; 64],
-    n: usize,
-) -> Stored
-    requires { ⌜ spec.Posed (now lefts) (now unders) (now numbers) scores n ⌝ ∗ ⌜ 256 ≤ length (now scratch) ⌝ }
-    ensures { λ r. ⌜ stored (r .total) (r .mask) ≡ bestOf (spec.itemsOf (now (lefts .entry)) (now (unders .entry)) (now (numbers .entry)) scores) (λ x. true) n ⌝ }
+// The best key of a chain of the items.
+pub fn solve(scratch: &mut [u64], standing: Standing, scores: &[i32; 64]) -> Stored
+    requires { ⌜ spec.Posed standing (now scores) ⌝ ∗ ⌜ 256 ≤ length (now scratch) ⌝ }
+    ensures { λ r. ⌜ stored (r .total) (r .mask) ≡ bestOf (spec.itemsOf standing (now (scores .entry))) (λ x. true) (standing .count) ⌝ }
 {
-    fill_items(scratch, lefts, unders, numbers, scores, n);
-    fill_row(scratch, lefts, ALL, n)
+    fill_items(scratch, standing, scores);
+    fill_row(scratch, &standing.lefts, ALL, standing.count)
 }
