@@ -1,3 +1,3 @@
-pub mod Judging
-pub mod Changing
+pub mod Judges
+pub mod Calls
 pub mod Looks

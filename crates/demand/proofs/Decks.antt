@@ -35,7 +35,7 @@ use Rattle.chain.specs.State.{countAnswer, addAnswer}
 use Rattle.chain.specs.View.{view, Sound}
 use Rattle.chain.specs.Opening.{startWith, deckOpening}
 use Rattle.chain.specs.declared.Session.{Session}
-use Rattle.chain.proofs.Judging.{count-room}
+use Rattle.chain.proofs.Judges.{count-room}
 
 -- A score in range is stored as it is.
 and-left : (a b : Bool) → (a && b) ≡ true → a ≡ true

@@ -1,4 +1,3 @@
 pub mod Pairs
 pub mod Rescored
 pub mod Demand
-mod Rows

@@ -121,7 +121,7 @@ refused-alike false false p judged judged′ later s next next′ = refl
 
 pub add-many : (s : State) (ps ps′ : List Pair) (z : ℤ) → 1024 < length ps → 1024 < length ps′ → add s ps z ≡ add s ps′ z
 unfolding add addAnswer nextAnswer
-add-many s ps ps′ z h h′ = rw (limit-many _ _ (length ps) z h, limit-many _ _ (length ps′) z h′) (refused-alike (not (inRange z)) (leb 64 (length (s .rows))) _ _ _ s _ _)
+add-many s ps ps′ z h h′ = rw (limit-many _ _ (length ps) z h, limit-many _ _ (length ps′) z h′) (refused-alike (not (inRange z)) (leb 64 (length (s .rows))) _ _ _ _ s _ _)
 
 -- So the pairs held are added as the whole list is.
 pub add-listed : (s : State) (ps : List Pair) (z : ℤ) → add s (heldIn (withPairs ps noNodes)) z ≡ add s ps z

@@ -15,7 +15,7 @@ use Rattle.chain.specs.State.{State, decide, changed, rescoreAnswer, rescore}
 use Rattle.chain.specs.View.{view, Does}
 use Rattle.chain.specs.declared.Session.{Session}
 use Rattle.lent.specs.Rescored.{OnlyScore, Rescored}
-use Rattle.chain.proofs.Judging.{Given, rescorable}
+use Rattle.chain.proofs.Judges.{Given, rescorable}
 
 decided : (b : Answer) (s next : State) → decide b s next .answer ≡ b
 decided Accepted s next = refl

@@ -68,13 +68,13 @@ use Rattle.test_lent.proofs.Taking.{take-least}
 use Rattle.test_lent.proofs.Rows.{pvals, fvals, Row, rowTy, aval, is-at, lie-in, lie-out, after, cuts, joins}
 use Rattle.test_lent.proofs.lent_count as e
 use Rattle.test_lent.proofs.lent_count.Symbol as e-def
-use Rattle.test_lent.proofs.lent_count.Symbol.{name as #lent·lent-count}
+use Rattle.test_lent.proofs.lent_count.Symbol.{name as #test-lent·lent-count}
 use Rattle.test_lent.proofs.lent_count.Met as e-thm
 use Rattle.lent.proofs.add as g
 use Rattle.lent.proofs.add.Symbol as g-def
 use Rattle.lent.proofs.add.Symbol.{name as #lent·add}
 use Rattle.lent.proofs.add.Met as g-thm
-use Rattle.test_lent.proofs.add_from.Key.{name as #lent·add-from}
+use Rattle.test_lent.proofs.add_from.Key.{name as #test-lent·add-from}
 use Rattle.test_lent.proofs.add_from as f
 use Rattle.test_lent.proofs.add_from.Statement as stated
 use Rattle.test_lent.proofs.add_from.Code as code
@@ -187,7 +187,7 @@ module _ {M : Type 1} (𝓤 : URA M) (H : Heap 𝓤) (A : Atoms 𝓤) (W : Given
     said : (α : ℕ) (γ : GName) (r : Added) → ent 𝓤 (ensured 𝓤 H A g.ended (g.clauses 𝓤 H A mem run) (α ∷ [], tt) (h, (y γ, (z, tt))) tt r) (sep 𝓤 (fact 𝓤 (Known r)) (fact 𝓤 (Numbered r)))
     said α γ r = exE 𝓤 _ (λ ws. snd∗ 𝓤 (sem 𝓤 H A (lasts g.ended (α ∷ [], tt) (h, (y γ, (z, tt))) ws)) (sep 𝓤 (fact 𝓤 (Known r)) (fact 𝓤 (Numbered r))))
 
-  module _ (C : Calls 𝓤 H) (Λ : Loops 𝓤 H) (fm : FmC 𝓤 H (W .laws) C) (known-count : Triple 𝓤 (C #lent·lent-count) (E 𝓤 H A mem run)) (known : Triple 𝓤 (C #lent·add) (G 𝓤 H A mem run)) where
+  module _ (C : Calls 𝓤 H) (Λ : Loops 𝓤 H) (fm : FmC 𝓤 H (W .laws) C) (known-count : Triple 𝓤 (C #test-lent·lent-count) (E 𝓤 H A mem run)) (known : Triple 𝓤 (C #lent·add) (G 𝓤 H A mem run)) where
     walk : ent 𝓤 (onEntry 𝓤 H A f.signature tt tt x at) (WpFn 𝓤 H C Λ code.function (only (svals h) ∷ only (fvals d) ∷ only (sint-vals w32 z) ∷ []) Post)
     walk =
         qed W (‵ ftrue ∷ ‵ (owns (S.the-row ∷ F.the-row ∷ i32 ∷ []) x at) ∷ []) ∵ enter ! C Λ code.function (only (svals h) ∷ only (fvals d) ∷ only (sint-vals w32 z) ∷ []) _ $
@@ -221,7 +221,7 @@ module _ {M : Type 1} (𝓤 : URA M) (H : Heap 𝓤) (A : Atoms 𝓤) (W : Given
         move ! (16 ∷ 17 ∷ []) $ free1 ! $ move ! (14 ∷ 15 ∷ []) $ free1 ! $ move ! (12 ∷ 13 ∷ []) $ free1 ! $ move ! (10 ∷ 11 ∷ []) $ free1 ! $ move ! (8 ∷ 9 ∷ []) $ free1 ! $ move ! (1 ∷ 7 ∷ []) $ free1 ! $
         move ! (4 ∷ 5 ∷ []) $ free1 ! $ move ! (2 ∷ 3 ∷ []) $ free1 ! $ free0 ! $ keep ! (0 ∷ []) $ by ! (exits r w (right k most l₅ r does) number))))))))))))))))))))
 
-module _ {M : Type 1} (𝓤 : URA M) (H : Heap 𝓤) (A : Atoms 𝓤) (W : Given 𝓤 H A) (mem : Memory → SProp 𝓤) (run : Routine → Fun 𝓤) (𝓣 : Tables 𝓤 H) (known-count : Triple 𝓤 (𝓣 .C #lent·lent-count) (E 𝓤 H A mem run)) (known : Triple 𝓤 (𝓣 .C #lent·add) (G 𝓤 H A mem run)) where
+module _ {M : Type 1} (𝓤 : URA M) (H : Heap 𝓤) (A : Atoms 𝓤) (W : Given 𝓤 H A) (mem : Memory → SProp 𝓤) (run : Routine → Fun 𝓤) (𝓣 : Tables 𝓤 H) (known-count : Triple 𝓤 (𝓣 .C #test-lent·lent-count) (E 𝓤 H A mem run)) (known : Triple 𝓤 (𝓣 .C #lent·add) (G 𝓤 H A mem run)) where
   f-walks : Walks 𝓤 H A f.ended stayed (WpFn 𝓤 H (𝓣 .C) (𝓣 .Λ) code.function) (f.clauses 𝓤 H A mem run)
   f-walks = walked 𝓤 H A f.ended stayed (f.clauses 𝓤 H A mem run) (WpFn 𝓤 H (𝓣 .C) (𝓣 .Λ) code.function)
       (λ κs. (svals, (fvals, (sint-vals w32, tt)))) (λ κs. (LL.tells S.the-type S′.the-laws, (LL.tells F.the-type F′.the-laws, (sint-tells w32, tt))))
@@ -235,7 +235,7 @@ pub add-from-spec : {M : Type 1} → stated.statement M
 unfolding code.routine tablesOf
 add-from-spec 𝓤 H 𝓜 𝓖 𝓡 =
     entered 𝓤 H (tripleOf 𝓤 H (𝓖 .A) f.signature (f.spec 𝓤 H (𝓖 .A) (𝓜 .mem) (𝓡 .run)))
-    (tables 𝓤 H 𝓜 𝓡 code.env .C) (tables 𝓤 H 𝓜 𝓡 code.env .Λ) #lent·add-from code.function (code.unfolded 𝓤 H 𝓜 𝓡)
+    (tables 𝓤 H 𝓜 𝓡 code.env .C) (tables 𝓤 H 𝓜 𝓡 code.env .Λ) #test-lent·add-from code.function (code.unfolded 𝓤 H 𝓜 𝓡)
     (f-meets 𝓤 H (𝓖 .A) (givenOf 𝓤 H 𝓜 𝓖) (𝓜 .mem) (𝓡 .run) (tablesOf 𝓤 H 𝓜 (tables 𝓤 H 𝓜 𝓡 code.env))
-    (cited 𝓤 H (E 𝓤 H (𝓖 .A) (𝓜 .mem) (𝓡 .run)) 𝓜 𝓡 code.env #lent·lent-count e-def.routine code.calls-lent·lent-count (e-thm.met 𝓤 H 𝓜 𝓖 𝓡))
+    (cited 𝓤 H (E 𝓤 H (𝓖 .A) (𝓜 .mem) (𝓡 .run)) 𝓜 𝓡 code.env #test-lent·lent-count e-def.routine code.calls-test-lent·lent-count (e-thm.met 𝓤 H 𝓜 𝓖 𝓡))
     (cited 𝓤 H (G 𝓤 H (𝓖 .A) (𝓜 .mem) (𝓡 .run)) 𝓜 𝓡 code.env #lent·add g-def.routine code.calls-lent·add (g-thm.met 𝓤 H 𝓜 𝓖 𝓡)))

@@ -58,7 +58,7 @@ use Rattle.lent.proofs.rescore as g
 use Rattle.lent.proofs.rescore.Symbol as g-def
 use Rattle.lent.proofs.rescore.Symbol.{name as #lent·rescore}
 use Rattle.lent.proofs.rescore.Met as g-thm
-use Rattle.test_lent.proofs.rescore_by_reference.Key.{name as #lent·rescore-by-reference}
+use Rattle.test_lent.proofs.rescore_by_reference.Key.{name as #test-lent·rescore-by-reference}
 use Rattle.test_lent.proofs.rescore_by_reference as f
 use Rattle.test_lent.proofs.rescore_by_reference.Statement as stated
 use Rattle.test_lent.proofs.rescore_by_reference.Code as code
@@ -180,6 +180,6 @@ pub rescore-by-reference-spec : {M : Type 1} → stated.statement M
 unfolding code.routine tablesOf
 rescore-by-reference-spec 𝓤 H 𝓜 𝓖 𝓡 =
     entered 𝓤 H (tripleOf 𝓤 H (𝓖 .A) f.signature (f.spec 𝓤 H (𝓖 .A) (𝓜 .mem) (𝓡 .run)))
-    (tables 𝓤 H 𝓜 𝓡 code.env .C) (tables 𝓤 H 𝓜 𝓡 code.env .Λ) #lent·rescore-by-reference code.function (code.unfolded 𝓤 H 𝓜 𝓡)
+    (tables 𝓤 H 𝓜 𝓡 code.env .C) (tables 𝓤 H 𝓜 𝓡 code.env .Λ) #test-lent·rescore-by-reference code.function (code.unfolded 𝓤 H 𝓜 𝓡)
     (f-meets 𝓤 H (𝓖 .A) (givenOf 𝓤 H 𝓜 𝓖) (𝓜 .mem) (𝓡 .run) (tablesOf 𝓤 H 𝓜 (tables 𝓤 H 𝓜 𝓡 code.env))
     (cited 𝓤 H (G 𝓤 H (𝓖 .A) (𝓜 .mem) (𝓡 .run)) 𝓜 𝓡 code.env #lent·rescore g-def.routine code.calls-lent·rescore (g-thm.met 𝓤 H 𝓜 𝓖 𝓡)))

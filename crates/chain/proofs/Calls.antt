@@ -24,7 +24,7 @@ use Rattle.chain.specs.Opening.{startWith}
 use Rattle.chain.specs.State.{State, decide, changed, countAnswer, rescoreAnswer, rescore, moveAnswer, moveTo, addAnswer, add, numberGiven}
 use Rattle.chain.specs.View.{view, Sound, Does}
 use Rattle.chain.specs.declared.Session.{Session}
-use Rattle.chain.proofs.Judging.{Rescorable, rescorable, Movable, movable, count-room}
+use Rattle.chain.proofs.Judges.{Rescorable, rescorable, Movable, movable, count-room}
 
 -- The session of an opening, whose seeds count as adds.
 abbrev pub opened : Tree → Tree → Table → Session

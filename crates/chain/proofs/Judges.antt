@@ -1,14 +1,16 @@
 -- What the judges of seed numbers, presence and the change count answer, and what an accepted call knows.
-use mathlib.Core.Path.{_≡_, refl}
+use mathlib.Core.Path.{_≡_, refl, sym, ap, _∙_}
 use mathlib.Core.Bool.{Bool, true, false, not, _&&_, Bool·beq, false≢true}
-use Prim.Native.Nat.{ℕ, _≤_, _<_}
-use lib.ListN.{length}
+use mathlib.Core.List.{List}
+use Prim.Native.Nat.{ℕ, _-_, _≤_, _<_}
+use lib.ListN.{length, getD}
 use lib.IntN.{ℤ}
 use lib.Dec.{leb}
 use borrow.Author.Tests.{leb-true, leb-false, not-false}
 use Rattle.answer.proofs.Given.{not-given}
 use Rattle.answer.specs.declared.Answer.the-variants.{Accepted}
-use Rattle.table.specs.Rows.{givenOut, rowOf, inRange}
+use Rattle.table.specs.Rows.{Row, noRow, givenOut, rowOf, summaryOf, inRange}
+use Rattle.table.specs.declared.Summary.{Summary}
 use Rattle.chain.specs.State.{State, countAnswer, rescoreAnswer, moveAnswer}
 
 pub beq-true : (b : Bool) → b ≡ Bool·beq true b
@@ -60,3 +62,8 @@ unfolding moveAnswer
 movable s k to e =
     let a = not-given _ _ _ _ e in
     record { number = given-out (length (s .rows)) k (a .0); room = count-room (s .changes) (not-given (Bool·beq (rowOf (s .rows) k .present) to) _ _ _ (a .1) .1) }
+
+-- Whether a seed is as it is asked to be, by what its row says.
+pub as-asked : (rows : List Row) (k : ℕ) (to : Bool) {row : Summary} {b x : Bool} → row ≡ summaryOf (getD rows (k - 1) noRow) → b ≡ Bool·beq (row .present) to → b ≡ x → Bool·beq (rowOf rows k .present) to ≡ x
+unfolding rowOf
+as-asked rows k to e f g = ap (λ (r : Summary). Bool·beq (r .present) to) (sym e) ∙ sym f ∙ g
