@@ -19,7 +19,8 @@ fn node(c: Column, k: usize) -> usize {
     if k < 4 { c.node[k] as usize } else { 255 }
 }
 
-fn last(c: Column) -> usize {
+// The last node of a column, and 255 if it has none.
+pub fn last(c: Column) -> usize {
     if 0 < c.count {
         node(c, c.count - 1)
     } else {

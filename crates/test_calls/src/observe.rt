@@ -1,4 +1,4 @@
-// All that a session lets be seen: the best chain, the open areas of each seed, and the deck.
+// All that a session lets be seen: the best chain, the open areas and the row of each seed, and the deck.
 use chain::Session;
 use test_words::plain::part;
 use test_words::plain::put;
@@ -49,13 +49,27 @@ fn put_areas(session: Session, number: usize, out: &mut [u8], at: usize) -> usiz
     put_all(out, at, &areas)
 }
 
-// The areas of the seeds 1 to 8.
-fn put_all_areas(session: Session, out: &mut [u8], at: usize) -> usize
+// What stands in the row of a seed beside its score, which the deck and the best chain show.
+fn put_row(session: Session, number: usize, out: &mut [u8], at: usize) -> usize
+    requires { ⌜ Sound session ⌝ }
+{
+    let shown = session.row(number);
+    let row = shown.row;
+    let last = row.last;
+    let q = put(out, at, last.q);
+    let t = put(out, q, last.t);
+    let present = put(out, t, flag(row.present));
+    put_total(out, present, row.pairs as u64)
+}
+
+// The areas and the rows of the seeds 1 to 8.
+fn put_all_seeds(session: Session, out: &mut [u8], at: usize) -> usize
     requires { ⌜ Sound session ⌝ }
 {
     let mut end = at;
     for number in 1..9 {
         end = put_areas(session, number, out, end);
+        end = put_row(session, number, out, end);
     }
     end
 }
@@ -65,7 +79,7 @@ fn observe(session: Session, out: &mut [u8])
 {
     let best = put_best(session, out);
     let deck = put_deck(session, out, best);
-    put_all_areas(session, out, deck);
+    put_all_seeds(session, out, deck);
 }
 
 // Whether two sessions look the same.

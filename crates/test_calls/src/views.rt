@@ -4,6 +4,7 @@ use super::redeal::redealt;
 use answer::Answer;
 use best::Best;
 use chain::Session;
+use seed::Pair;
 use test_words::Text;
 use test_words::answers::with_answer;
 use test_words::blank;
@@ -157,6 +158,49 @@ pub fn deck(session: Session, s: &[u8], at: usize) -> Text
         return blank();
     }
     deck_on(session, &mut out[..room])
+}
+
+// A space and a score.
+fn with_score(t: Text, score: i32) -> Text {
+    let spaced = with_byte(t, b' ');
+    if score < 0 {
+        let below = -(score as i64);
+        return with_number(with_byte(spaced, b'-'), below as usize);
+    }
+    with_number(spaced, score as usize)
+}
+
+// A space and a pair.
+fn with_pair(t: Text, pair: Pair) -> Text {
+    with_number(
+        with_byte(with_spaced(t, wide(pair.q)), b':'),
+        wide(pair.t),
+    )
+}
+
+fn with_presence(t: Text, present: bool) -> Text {
+    if present {
+        return with_bytes(t, b" present");
+    }
+    with_bytes(t, b" withdrawn")
+}
+
+// row NUMBER: the score, the last pair, how many pairs, and the presence.
+pub fn row(session: Session, s: &[u8], at: usize) -> Text
+    requires { ⌜ Sound session ⌝ }
+{
+    let shown = session.row(number(s, at));
+    let answer = shown.answer;
+    let row = shown.row;
+    let last = row.last;
+    let said = with_answer(blank(), answer);
+    match answer {
+        Answer::Accepted => with_presence(
+            with_spaced(with_pair(with_score(said, row.score), last), row.pairs),
+            row.present,
+        ),
+        _ => said,
+    }
 }
 
 // redeal: the deck is written, opened on the two texts that stand at a place, and written again.

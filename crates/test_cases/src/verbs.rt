@@ -32,6 +32,9 @@ fn looking(session: Session, s: &[u8], at: usize, texts: usize) -> Text
     if check::same(word(s, at), b"deck") {
         return views::deck(session, s, args);
     }
+    if check::same(word(s, at), b"row") {
+        return views::row(session, s, args);
+    }
     if check::same(word(s, at), b"redeal") {
         return views::redeal(session, s, texts);
     }

@@ -1,4 +1,5 @@
-// What a random session lets be seen, held to its table and to the definitions: the best chain, the open areas of a seed, and the deck.
+// What a random session lets be seen, held to its table and to the definitions: the best chain, the open areas and the row of a seed, and the
+// deck.
 use super::play::Play;
 use best::Best;
 use chain::Session;
@@ -6,6 +7,7 @@ use test_brute::areas::areas_right;
 use test_brute::seeds::List;
 use test_brute::seeds::Trees;
 use test_brute::seeds::both;
+use test_brute::seeds::last;
 use test_brute::table;
 use test_brute::table::Choice;
 use test_brute::table::Table;
@@ -141,7 +143,24 @@ fn listing_of(p: Play, i: usize) -> Listing
     listed_right(session, more(i), trees, table::seed(table, i), &mut out)
 }
 
-// The open areas of the seed at a place of the table are compared, if there is one.
+// Whether the row of the seed at a place is the table's.
+fn row_right(p: Play, i: usize) -> bool
+    requires { ⌜ Sound (p .session) ⌝ }
+{
+    let session = p.session;
+    let table = p.table;
+    let shown = session.row(more(i));
+    let row = shown.row;
+    let pair = row.last;
+    let list = table::seed(table, i);
+    let q = list.q;
+    let t = list.t;
+    let ends = both(pair.q as usize == last(q), pair.t as usize == last(t));
+    let there = row.present == is_present(table, i);
+    both(ends, both(row.pairs == q.count, there))
+}
+
+// The open areas and the row of the seed at a place of the table are compared, if there is one.
 pub fn list_areas(p: Play, i: usize) -> Play
     requires { ⌜ Sound (p .session) ⌝ }
     ensures { λ r. ⌜ Sound (r .session) ⌝ }
@@ -153,10 +172,11 @@ pub fn list_areas(p: Play, i: usize) -> Play
         return p;
     }
     let l = listing_of(p, i);
+    let rows = marked(count, row_right(p, i), b"a row");
     noted(
         p,
         with_areas(seen, l.count),
-        marked(count, l.right, b"open areas"),
+        marked(rows, l.right, b"open areas"),
     )
 }
 
