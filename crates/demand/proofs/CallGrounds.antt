@@ -44,11 +44,11 @@ module _ {o : Outcome} {s : Session} {h : List Event} (w : Reached o s h) where
     pub rescored-grounds : (k : ℕ) (z : ℤ) → Does s (rescore (view s) k z) a next → Decides (RescoreSays (stateOf (o .state) h) k z) a
     rescored-grounds k z d = said-by-history (λ x. RescoreSays x k z) (d .answers) (rescore-decides (view s) k z)
 
-    pub withdraw-grounds : (k : ℕ) → Does s (withdraw (view s) k) a next → Decides (MoveSays (stateOf (o .state) h) k false) a
-    withdraw-grounds k d = said-by-history (λ x. MoveSays x k false) (d .answers) (move-decides (view s) k false)
+    pub withdrawn-grounds : (k : ℕ) → Does s (withdraw (view s) k) a next → Decides (MoveSays (stateOf (o .state) h) k false) a
+    withdrawn-grounds k d = said-by-history (λ x. MoveSays x k false) (d .answers) (move-decides (view s) k false)
 
-    pub bring-back-grounds : (k : ℕ) → Does s (bringBack (view s) k) a next → Decides (MoveSays (stateOf (o .state) h) k true) a
-    bring-back-grounds k d = said-by-history (λ x. MoveSays x k true) (d .answers) (move-decides (view s) k true)
+    pub brought-back-grounds : (k : ℕ) → Does s (bringBack (view s) k) a next → Decides (MoveSays (stateOf (o .state) h) k true) a
+    brought-back-grounds k d = said-by-history (λ x. MoveSays x k true) (d .answers) (move-decides (view s) k true)
 
     pub added-grounds : (ps : List Pair) (z : ℤ) → Does s (add (view s) ps z) a next → Decides (AddSays (stateOf (o .state) h) ps z) a
     added-grounds ps z d =
