@@ -1,4 +1,4 @@
--- The plain form of document 01's deck and of one whose records are out of order, computed from the definitions. Assumes nothing.
+-- The plain form of document 01's deck and of one whose records are out of order, computed from the definitions.
 use mathlib.Core.Path.{_≡_, refl}
 use mathlib.Core.List.{[], _∷_, flatten}
 use Rattle.seed.specs.Tab.{tab}

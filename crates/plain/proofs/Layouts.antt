@@ -1,4 +1,4 @@
--- The records of a deck that was put together from records are those. Assumes nothing.
+-- The records of a deck that was put together from records are those.
 use mathlib.Core.Path.{_≡_, refl, sym, ap, ap₂, _∙_}
 use mathlib.Core.List.{List, [], _∷_, _++_, map, flatten, append-nil, append-assoc}
 use Prim.Native.Nat.{ℕ, zero, suc, _+_, _*_, _≤_, _<_}
@@ -16,7 +16,7 @@ use Rattle.plain.specs.Writing.{pairPart}
 use Rattle.deck.proofs.Lists.{map-append, flatten-append, tab-elements}
 use Rattle.plain.proofs.Scores.{signed-unsigned}
 use Rattle.plain.proofs.Writing.{pair-part-length}
-use Rattle.plain.proofs.Present.{seed-bytes-length}
+use Rattle.plain.proofs.PlainForm.{seed-bytes-length}
 
 -- A record of a list, spelled in so many bytes each, in front of which stand some bytes.
 module _ {A : Type 0} (spell : A → List ℕ) (front : List ℕ) (xs : List A) (back : List ℕ) where

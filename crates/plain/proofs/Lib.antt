@@ -1,8 +1,8 @@
 pub mod Scores
 pub mod Writing
+pub mod PlainForm
 pub mod Present
 pub mod Turns
-pub mod PlainForm
 pub mod Layouts
 pub mod PlainWalk
 pub mod RoundTrip

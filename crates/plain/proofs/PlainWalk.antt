@@ -1,4 +1,4 @@
--- The walk over records in plain form reaches them one after another and comes to its end. Assumes nothing.
+-- The walk over records in plain form reaches them one after another and comes to its end.
 use mathlib.Core.Path.{_≡_, refl, sym, ap, ap₂, subst, subst₂, _∙_}
 use mathlib.Core.Bool.{Bool, false, cond, _||_}
 use mathlib.Core.List.{List, [], _∷_, _++_, map, flatten, append-nil, append-assoc}
@@ -14,7 +14,8 @@ use borrow.Author.Tests.{lt-ltb, le-ltb, ne-eqb}
 use Rattle.seed.specs.Tab.{tab}
 use Rattle.seed.specs.Pairs.{pairOf}
 use Rattle.seed.specs.declared.Pair.{Pair}
-use Rattle.deck.specs.Deck.{SeedRecord, PairRecord, firstOf, recordOf, isIn, DeckRow, rowsBy, chainsOf}
+use Rattle.table.specs.Rows.{Row, newRow, pairsOfRow}
+use Rattle.deck.specs.Deck.{SeedRecord, PairRecord, firstOf, recordOf, isIn, rowsBy, chainsOf}
 use Rattle.plain.specs.Plain.{plainChain, plainPairs, plainSeeds, All, RowInLimits}
 use Rattle.deck.specs.Grounds.{Fresh, Passes, Walked, Ended}
 use Rattle.deck.specs.Grounds.Passes.{here, onward}
@@ -24,7 +25,7 @@ use Rattle.seed.proofs.Tabs.{length-tab, map-tab}
 use Rattle.deck.proofs.Lists.{tab-next, tab-elements, map-append, flatten-append, flatten-more}
 use Rattle.deck.proofs.Counting.{isIn-more}
 use Rattle.plain.proofs.Writing.{chain-length, chain-at}
-use Rattle.plain.proofs.Present.{seeds-append, pairs-append, seeds-count, pairs-count}
+use Rattle.plain.proofs.PlainForm.{seeds-append, pairs-append, seeds-count, pairs-count}
 
 -- The n numbers from k on, and such a run for each seed.
 numbers : ℕ → ℕ → List ℕ
@@ -125,12 +126,12 @@ module _ (front : List (List Pair)) (c : List Pair) (back : List (List Pair)) wh
   pairs-there = map-tab (λ (j : ℕ). recordOf ps j .pair) (length c) (λ i. k + i) ∙ tab-elements (length c) (λ i. recordOf ps (k + i) .pair) c (pairOf 0 0) refl (λ i h. ap (λ (r : PairRecord). r .pair) (record-there i h))
 
 -- One seed more of all.
-module _ (front : List DeckRow) (r : DeckRow) (back : List DeckRow) where
+module _ (front : List Row) (r : Row) (back : List Row) where
   chains-split : chainsOf (front ++ r ∷ back) ≡ chainsOf front ++ r .pairs ∷ chainsOf back
-  chains-split = map-append (λ (x : DeckRow). x .pairs) front (r ∷ back)
+  chains-split = map-append pairsOfRow front (r ∷ back)
 
   chains-more : chainsOf (front ++ r ∷ []) ≡ chainsOf front ++ r .pairs ∷ []
-  chains-more = map-append (λ (x : DeckRow). x .pairs) front (r ∷ [])
+  chains-more = map-append pairsOfRow front (r ∷ [])
 
   number-more : 1 + length (flatten (chainsOf (front ++ r ∷ []))) ≡ 1 + length (flatten (chainsOf front)) + length (r .pairs)
   number-more = rw (chains-more, flatten-more (chainsOf front) (r .pairs), length-append (flatten (chainsOf front)) (r .pairs)) (omega arith)
@@ -146,7 +147,7 @@ module _ (front : List DeckRow) (r : DeckRow) (back : List DeckRow) where
       ∙ ap (λ (s : SeedRecord). s .first) (getD-append-seam (plainSeeds 1 front) _ _ _)
 
   run-length : length (runs 1 (chainsOf front)) ≡ length front
-  run-length = runs-length 1 (chainsOf front) ∙ length-map front (λ (x : DeckRow). x .pairs)
+  run-length = runs-length 1 (chainsOf front) ∙ length-map front pairsOfRow
 
   walked-more : 0 < length (r .pairs) → Walked (plainSeeds 1 (front ++ r ∷ back)) (plainPairs 1 (chainsOf (front ++ r ∷ back))) (runs 1 (chainsOf front)) → Walked (plainSeeds 1 (front ++ r ∷ back)) (plainPairs 1 (chainsOf (front ++ r ∷ back))) (runs 1 (chainsOf (front ++ r ∷ [])))
   walked-more s w =
@@ -155,32 +156,33 @@ module _ (front : List DeckRow) (r : DeckRow) (back : List DeckRow) where
       rw run-more (one-more w (omega (arith, run-length, seeds-count 1 (front ++ r ∷ back), length-append front (r ∷ back))) (λ e. omega arith) p)
 
 -- All seeds.
-abbrev Reached : List DeckRow → List DeckRow → Type 0
+abbrev Reached : List Row → List Row → Type 0
 Reached rows front = Walked (plainSeeds 1 rows) (plainPairs 1 (chainsOf rows)) (runs 1 (chainsOf front))
 
-walked-from : (front back : List DeckRow) → All RowInLimits back → Reached (front ++ back) front → Reached (front ++ back) (front ++ back)
-walked-from front [] a w = subst (λ (l : List DeckRow). Reached (front ++ []) l) (sym (append-nil front)) w
+walked-from : (front back : List Row) → All RowInLimits back → Reached (front ++ back) front → Reached (front ++ back) (front ++ back)
+walked-from front [] a w = subst (λ (l : List Row). Reached (front ++ []) l) (sym (append-nil front)) w
 walked-from front (r ∷ back) a w =
     let e : front ++ r ∷ [] ++ back ≡ front ++ r ∷ back = append-assoc front (r ∷ []) back in
-    subst (λ (rows : List DeckRow). Reached rows rows) e
-    (walked-from (front ++ r ∷ []) back (a .1) (subst (λ (rows : List DeckRow). Reached rows (front ++ r ∷ [])) (sym e) (walked-more front r back (a .0 .some) w)))
+    subst (λ (rows : List Row). Reached rows rows) e
+    (walked-from (front ++ r ∷ []) back (a .1) (subst (λ (rows : List Row). Reached rows (front ++ r ∷ [])) (sym e) (walked-more front r back (a .0 .some) w)))
 
-pub plain-ended : (rows : List DeckRow) → All RowInLimits rows → Ended (plainSeeds 1 rows) (plainPairs 1 (chainsOf rows)) (runs 1 (chainsOf rows))
+pub plain-ended : (rows : List Row) → All RowInLimits rows → Ended (plainSeeds 1 rows) (plainPairs 1 (chainsOf rows)) (runs 1 (chainsOf rows))
 unfolding runs
-plain-ended rows a = record { walked = walked-from [] rows a none; all = runs-length 1 (chainsOf rows) ∙ length-map rows (λ (x : DeckRow). x .pairs) ∙ sym (seeds-count 1 rows) }
+plain-ended rows a = record { walked = walked-from [] rows a none; all = runs-length 1 (chainsOf rows) ∙ length-map rows pairsOfRow ∙ sym (seeds-count 1 rows) }
 
-pub plain-reached : (rows : List DeckRow) → length (flatten (runs 1 (chainsOf rows))) ≡ length (plainPairs 1 (chainsOf rows))
+pub plain-reached : (rows : List Row) → length (flatten (runs 1 (chainsOf rows))) ≡ length (plainPairs 1 (chainsOf rows))
 plain-reached rows = ap length (runs-flat 1 (chainsOf rows)) ∙ numbers-length 1 (length (flatten (chainsOf rows))) ∙ sym (pairs-count 1 (chainsOf rows))
 
-rows-from : (front back : List DeckRow) (k : ℕ) → k ≡ 1 + length (flatten (chainsOf front)) → rowsBy (plainSeeds k back) (plainPairs 1 (chainsOf (front ++ back))) (runs k (chainsOf back)) ≡ back
+rows-from : (front back : List Row) (k : ℕ) → All RowInLimits back → k ≡ 1 + length (flatten (chainsOf front)) → rowsBy (plainSeeds k back) (plainPairs 1 (chainsOf (front ++ back))) (runs k (chainsOf back)) ≡ back
 unfolding rowsBy plainSeeds runs
-rows-from front [] k e = refl
-rows-from front (r ∷ back) k e =
+rows-from front [] k a e = refl
+rows-from front (r ∷ back) k a e =
     let pairs : map (λ (j : ℕ). recordOf (plainPairs 1 (chainsOf (front ++ r ∷ back))) j .pair) (numbers k (length (r .pairs))) ≡ r .pairs = rw (e, chains-split front r back) (pairs-there (chainsOf front) (r .pairs) (chainsOf back)) in
     let n : k + length (r .pairs) ≡ 1 + length (flatten (chainsOf (front ++ r ∷ []))) = omega (arith, number-more front r back) in
-    let rest = rw (append-assoc front (r ∷ []) back) at (rows-from (front ++ r ∷ []) back (k + length (r .pairs)) n) in
-    ap₂ (λ (ps : List Pair) (rs : List DeckRow). record { score = r .score; pairs = ps } ∷ rs) pairs rest
+    let rest = rw (append-assoc front (r ∷ []) back) at (rows-from (front ++ r ∷ []) back (k + length (r .pairs)) (a .1) n) in
+    let is : newRow (r .pairs) (r .score) ≡ r = λ j. record { pairs = r .pairs; score = r .score; present = sym (a .0 .present) j } in
+    ap₂ (λ (ps : List Pair) (rs : List Row). newRow ps (r .score) ∷ rs) pairs rest ∙ ap (λ (x : Row). x ∷ back) is
 
-pub plain-rows : (rows : List DeckRow) → rowsBy (plainSeeds 1 rows) (plainPairs 1 (chainsOf rows)) (runs 1 (chainsOf rows)) ≡ rows
+pub plain-rows : (rows : List Row) → All RowInLimits rows → rowsBy (plainSeeds 1 rows) (plainPairs 1 (chainsOf rows)) (runs 1 (chainsOf rows)) ≡ rows
 unfolding flatten
-plain-rows rows = rows-from [] rows 1 refl
+plain-rows rows a = rows-from [] rows 1 a refl

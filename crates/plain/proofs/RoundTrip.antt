@@ -1,39 +1,44 @@
--- Reading the plain form of seeds gives these seeds, so a deck that is read and written is put in plain form and reads the same again.
--- Assumes nothing.
-use mathlib.Core.Path.{_≡_, refl, sym, ap, ap₂, subst, _∙_}
-use mathlib.Core.Bool.{Bool, true, false}
+-- Reading the plain form of rows gives these rows, so a deck that is read and written is put in plain form and reads the same again, and
+-- what is written of a table reads as its present rows.
+use mathlib.Core.Path.{_≡_, refl, ap, ap₂, subst, _∙_}
+use mathlib.Core.Bool.{Bool, true, false, cond}
 use mathlib.Core.List.{List, [], _∷_, _++_, flatten}
 use Prim.Native.Nat.{ℕ, zero, suc, _+_, _*_, _≤_, _<_}
 use native.Mathlib.Omega.{arith}
 use lib.ListN.{length, getD, take, drop, length-map}
 use lib.Seq.{take-at}
+use lib.IntN.{pos}
 use lib.Signed.{mag}
 use borrow.Author.Tests.{le-leb}
 use Rattle.seed.specs.Tab.{tab}
-use Rattle.deck.specs.Deck.{number32, SeedRecord, PairRecord, seedRecord, seedCount, seedRecords, pairRecords, recordOf, allIn, walks, DeckRow, settled, reading, rowsBy, chainsOf}
-use Rattle.plain.specs.Plain.{deckOf, plainPairs, plainSeeds, plainOf, All, RowInLimits, InLimits, presentOf, writtenOf, outputOf, Writes}
+use Rattle.table.specs.Rows.{Row, noRow, presentRows, pairsOfRow}
+use Rattle.table.specs.Table.{rowAt, rowsOf, Laid}
+use Rattle.table.specs.declared.Table.{Table}
+use Rattle.table.proofs.Tables.{rows-length, row-there, pairs-some}
+use Rattle.deck.specs.Deck.{number32, SeedRecord, PairRecord, seedRecord, seedCount, seedRecords, pairRecords, recordOf, allIn, walks, settled, reading, rowsBy, chainsOf}
+use Rattle.plain.specs.Plain.{deckOf, plainPairs, plainSeeds, plainOf, All, RowInLimits, InLimits, writtenOf, outputOf, Writes}
 use Rattle.deck.specs.Deck.Reading.{accepted}
-use Rattle.deck.specs.Handed.{rowAt, rowsIn, Reads}
+use Rattle.deck.specs.Handed.{rowsIn, Reads}
 use Rattle.deck.specs.Grounds.{Ended}
 use Rattle.deck.specs.declared.DeckRead.{DeckRead}
 use Rattle.plain.specs.declared.Written.{Written}
-use Rattle.deck.proofs.Lists.{tab-next}
 use Rattle.deck.proofs.Numbers.{Bytes, number32-below, signed-small}
 use Rattle.deck.proofs.Counting.{all-reached}
 use Rattle.deck.proofs.Walks.{counted-walked}
 use Rattle.deck.proofs.Grounds.{reading-laid, settled-all}
-use Rattle.deck.proofs.Accepted.{source, storable, chains-some}
-use Rattle.plain.proofs.Present.{seeds-count, pairs-count}
+use Rattle.deck.proofs.Accepted.{source, storable, chains-some, reading-present}
+use Rattle.plain.proofs.Present.{seeds-few, pairs-few}
+use Rattle.plain.proofs.PlainForm.{seeds-count, pairs-count}
 use Rattle.plain.proofs.Layouts.{layout-back, seeds-back, pairs-back}
 use Rattle.plain.proofs.PlainWalk.{runs, plain-ended, plain-reached, plain-rows}
 
-seeds-small : (k : ℕ) (rows : List DeckRow) → All RowInLimits rows → All (λ (s : SeedRecord). mag (s .score) < 2147483648) (plainSeeds k rows)
+seeds-small : (k : ℕ) (rows : List Row) → All RowInLimits rows → All (λ (s : SeedRecord). mag (s .score) < 2147483648) (plainSeeds k rows)
 unfolding plainSeeds
 seeds-small k [] a = tt
 seeds-small k (r ∷ rows) a = (a .0 .score, seeds-small (k + length (r .pairs)) rows (a .1))
 
 -- Reading the plain form of seeds within the limits gives these seeds.
-pub read-plain : (rows : List DeckRow) → InLimits rows → reading (plainOf rows) ≡ accepted rows
+pub read-plain : (rows : List Row) → InLimits rows → reading (plainOf rows) ≡ accepted rows
 unfolding plainOf
 read-plain rows h =
     let ss : List SeedRecord = plainSeeds 1 rows in
@@ -43,14 +48,14 @@ read-plain rows h =
     reading-laid (deckOf ss ps) (layout-back ss ps (omega (arith, seeds-count 1 rows, h .seeds)) (omega (arith, pairs-count 1 (chainsOf rows), h .pairs)))
     ∙ ap₂ (λ (x : List SeedRecord) (y : List PairRecord). settled x y (walks y [] x)) (seeds-back ss ps (seeds-small 1 rows (h .each))) (pairs-back ss ps)
     ∙ settled-all ss ps e a
-    ∙ ap accepted (plain-rows rows)
+    ∙ ap accepted (plain-rows rows (h .each))
 
 -- The seeds of an accepted deck are within the limits.
 rows-small : (ss : List SeedRecord) (ps : List PairRecord) (chains : List (List ℕ)) → All (λ (s : SeedRecord). mag (s .score) < 2147483648) ss → All (λ (c : List ℕ). 0 < length c) chains → All RowInLimits (rowsBy ss ps chains)
 unfolding rowsBy
 rows-small [] ps chains a b = tt
 rows-small (s ∷ ss) ps [] a b = tt
-rows-small (s ∷ ss) ps (c ∷ cs) a b = (record { some = rw (length-map c (λ (k : ℕ). recordOf ps k .pair)) (b .0); score = a .0 }, rows-small ss ps cs (a .1) (b .1))
+rows-small (s ∷ ss) ps (c ∷ cs) a b = (record { some = rw (length-map c (λ (k : ℕ). recordOf ps k .pair)) (b .0); score = a .0; present = refl }, rows-small ss ps cs (a .1) (b .1))
 
 all-by : {A : Type 0} (P : A → Type 0) (l : List A) (d : A) → ((i : ℕ) → i < length l → P (getD l i d)) → All P l
 all-by P [] d h = tt
@@ -65,32 +70,27 @@ records-small : (d : List ℕ) → Bytes d → All (λ (s : SeedRecord). mag (s 
 unfolding seedRecords seedRecord
 records-small d b = all-tab (λ (s : SeedRecord). mag (s .score) < 2147483648) (seedCount d) (λ i. seedRecord d (4 + 6 * i)) (λ i. signed-small (number32 d (4 + 6 * i)) (number32-below d (4 + 6 * i) b))
 
-pub accepted-limits : (d : List ℕ) (rows : List DeckRow) → Bytes d → reading d ≡ accepted rows → InLimits rows
+pub accepted-limits : (d : List ℕ) (rows : List Row) → Bytes d → reading d ≡ accepted rows → InLimits rows
 accepted-limits d rows b e =
     let s = source d rows e in
     let t = storable d rows s in
     record {
-      seeds = omega (arith, t .seeds, length-map rows (λ (r : DeckRow). r .pairs));
+      seeds = omega (arith, t .seeds, length-map rows pairsOfRow);
       pairs = t .pairs;
       each = rw (s .are) (rows-small (seedRecords d) (pairRecords d) (s .chains) (records-small d b) (all-by (λ (c : List ℕ). 0 < length c) (s .chains) [] (chains-some (seedRecords d) (pairRecords d) (s .ended .walked))));
     }
 
 -- An accepted deck's plain form reads the same.
-pub read-again : (d : List ℕ) (rows : List DeckRow) → Bytes d → reading d ≡ accepted rows → reading (plainOf rows) ≡ accepted rows
+pub read-again : (d : List ℕ) (rows : List Row) → Bytes d → reading d ≡ accepted rows → reading (plainOf rows) ≡ accepted rows
 read-again d rows b e = read-plain rows (accepted-limits d rows b e)
 
--- What was read from a deck and is written, all of it present, is the deck's plain form.
-present-all : {A : Type 0} (present : List Bool) (f : ℕ → A) (n : ℕ) → ((i : ℕ) → i < n → getD present i false ≡ true) → presentOf present f n ≡ tab n f
-unfolding presentOf tab
-present-all present f zero h = refl
-present-all present f (suc n) h = rw (h n (omega arith), present-all present f n (λ i l. h i (omega arith))) (sym (tab-next n f))
-
-pub read-written : (d : List ℕ) (rows : List DeckRow) (r : DeckRead) (present : List Bool) (before after : List ℕ) (w : Written) → reading d ≡ accepted rows → Reads d r → ((i : ℕ) → i < r .seeds → getD present i false ≡ true) → Writes (presentOf present (rowAt (r .store) (r .scores)) (r .seeds)) before after w → Writes rows before after w
-read-written d rows r present before after w e s p x =
-    subst (λ (l : List DeckRow). Writes l before after w) (present-all present (rowAt (r .store) (r .scores)) (r .seeds) p ∙ s .rows ∙ ap rowsIn e) x
+-- What was read from a deck and is written is the deck's plain form.
+pub read-written : (d : List ℕ) (rows : List Row) (r : DeckRead) (before after : List ℕ) (w : Written) → reading d ≡ accepted rows → Reads d r → Writes (presentRows (rowsOf (r .table))) before after w → Writes rows before after w
+read-written d rows r before after w e s x =
+    subst (λ (l : List Row). Writes l before after w) (ap presentRows (s .rows) ∙ reading-present d ∙ ap rowsIn e) x
 
 -- Read, written into an output that has room, and read again: the same seeds.
-written-front : (rows : List DeckRow) (before after : List ℕ) (w : Written) → length (plainOf rows) ≤ length before → Writes rows before after w → take (w .length) after ≡ plainOf rows
+written-front : (rows : List Row) (before after : List ℕ) (w : Written) → length (plainOf rows) ≤ length before → Writes rows before after w → take (w .length) after ≡ plainOf rows
 unfolding writtenOf outputOf
 written-front rows before after w h x =
     let yes = le-leb (length (plainOf rows)) (length before) h in
@@ -98,5 +98,28 @@ written-front rows before after w h x =
     let a : after ≡ plainOf rows ++ drop (length (plainOf rows)) before = rw yes at (x .leaves) in
     ap₂ take n a ∙ take-at (plainOf rows) (drop (length (plainOf rows)) before) (length (plainOf rows)) refl
 
-pub read-write-read : (d : List ℕ) (rows : List DeckRow) (r : DeckRead) (present : List Bool) (before after : List ℕ) (w : Written) → Bytes d → reading d ≡ accepted rows → Reads d r → ((i : ℕ) → i < r .seeds → getD present i false ≡ true) → length (plainOf rows) ≤ length before → Writes (presentOf present (rowAt (r .store) (r .scores)) (r .seeds)) before after w → reading (take (w .length) after) ≡ accepted rows
-read-write-read d rows r present before after w b e s p l x = ap reading (written-front rows before after w l (read-written d rows r present before after w e s p x)) ∙ read-again d rows b e
+pub read-write-read : (d : List ℕ) (rows : List Row) (r : DeckRead) (before after : List ℕ) (w : Written) → Bytes d → reading d ≡ accepted rows → Reads d r → length (plainOf rows) ≤ length before → Writes (presentRows (rowsOf (r .table))) before after w → reading (take (w .length) after) ≡ accepted rows
+read-write-read d rows r before after w b e s l x = ap reading (written-front rows before after w l (read-written d rows r before after w e s x)) ∙ read-again d rows b e
+
+-- The present rows of a filled table, with scores of 32 bits, are within the limits, so that what is written of them reads as them.
+present-each : (rows : List Row) → ((i : ℕ) → i < length rows → (0 < length (getD rows i noRow .pairs)) × (mag (getD rows i noRow .score) < 2147483648)) → All RowInLimits (presentRows rows)
+unfolding presentRows
+present-each [] h = tt
+present-each (r ∷ rows) h = go (r .present) refl (present-each rows (λ i l. h (suc i) (omega arith)))
+  where
+    go : (b : Bool) → r .present ≡ b → All RowInLimits (presentRows rows) → All RowInLimits (cond b (r ∷ presentRows rows) (presentRows rows))
+    go true e rest = let f = h 0 (omega arith) in (record { some = f .0; score = f .1; present = e }, rest)
+    go false e rest = rest
+
+module _ (t : Table) (h : Laid t) (small : (i : ℕ) → i < t .seeds → mag (getD (t .scores) i (pos 0)) < 2147483648) where
+  pub table-limits : InLimits (presentRows (rowsOf t))
+  unfolding rowAt
+  table-limits =
+      record {
+        seeds = seeds-few t h;
+        pairs = pairs-few t h;
+        each = present-each (rowsOf t) (λ i l. let m : i < t .seeds = omega (arith, rows-length t) in rw (row-there t i m) (pairs-some t h i m, small i m));
+      }
+
+  pub write-read : (before after : List ℕ) (w : Written) → length (plainOf (presentRows (rowsOf t))) ≤ length before → Writes (presentRows (rowsOf t)) before after w → reading (take (w .length) after) ≡ accepted (presentRows (rowsOf t))
+  write-read before after w l x = ap reading (written-front (presentRows (rowsOf t)) before after w l x) ∙ read-plain (presentRows (rowsOf t)) table-limits

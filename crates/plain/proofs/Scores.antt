@@ -1,4 +1,4 @@
--- Scores in two's complement turn back, and the code works them out in 64 bits. Assumes nothing.
+-- Scores in two's complement turn back, and the code works them out in 64 bits.
 use mathlib.Core.Path.{_≡_, refl, ap, _∙_}
 use mathlib.Core.Bool.{true, false, true≢false}
 use Prim.Native.Nat.{suc, _-_, _<_}

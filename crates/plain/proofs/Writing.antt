@@ -1,21 +1,21 @@
--- Bytes written one part after another are the parts in one, and the plain form is made of such parts. Assumes nothing.
+-- Bytes written one part after another are the parts in one, and the plain form is made of such parts.
 use mathlib.Core.Path.{_≡_, refl, sym, ap, ap₂, _∙_}
 use mathlib.Core.Bool.{Bool, true, false, cond}
 use mathlib.Core.List.{List, [], _∷_, _++_, map, flatten}
-use Prim.Native.Nat.{ℕ, zero, suc, _+_, _-_, _*_, _/_, _%_, _≤_, _<_}
+use Prim.Native.Nat.{ℕ, zero, suc, _+_, _*_, _/_, _%_, _≤_, _<_}
 use native.Mathlib.Nat.{add-zero}
 use native.Mathlib.Numerals.{add-one}
 use native.Mathlib.Omega.{arith}
-use lib.ListN.{length, getD, set, take, drop, length-append, length-take, length-drop}
-use lib.Seq.{sets, length-sets, length-take-le, take-suc, take-all, getD-take, getD-drop}
+use lib.ListN.{length, getD, set, take, length-append}
+use lib.Seq.{sets, length-sets, length-take-le, take-suc, take-all}
 use lib.Dec.{ltb}
 use lib.IntN.{ℤ}
 use Rattle.seed.specs.Pairs.{pairOf, pairsOf}
-use Rattle.seed.specs.Store.{between}
 use Rattle.seed.specs.declared.Pair.{Pair}
 use Rattle.deck.specs.Deck.{PairRecord}
 use Rattle.plain.specs.Plain.{unsigned, bytes16, bytes32, seedBytes, pairBytes, plainChain}
-use Rattle.plain.specs.Writing.{Stored, countAt, chainAt, nextOf, pairPart}
+use Rattle.plain.specs.Writing.{nextOf, pairPart}
+use Rattle.seed.proofs.PairLists.{count-first}
 use Rattle.seed.proofs.Tabs.{length-tab, getD-tab}
 use Rattle.deck.proofs.Lists.{map-append, flatten-append, flatten-more}
 
@@ -62,12 +62,6 @@ pub chain-at : (k : ℕ) (ps : List Pair) (i : ℕ) (r : PairRecord) → i < len
 unfolding plainChain
 chain-at k ps i r h = getD-tab (length ps) _ i r h
 
-pub pairs-of-length : (qs ts : List ℕ) → length ts ≡ length qs → length (pairsOf qs ts) ≡ length qs
-unfolding pairsOf
-pairs-of-length [] ts e = refl
-pairs-of-length (q ∷ qs) [] e = absurd (omega arith)
-pairs-of-length (q ∷ qs) (t ∷ ts) e = ap suc (pairs-of-length qs ts (omega arith))
-
 pairs-of-at : (qs ts : List ℕ) (i : ℕ) → length ts ≡ length qs → i < length qs → getD (pairsOf qs ts) i (pairOf 0 0) ≡ pairOf (getD qs i 0) (getD ts i 0)
 unfolding pairsOf
 pairs-of-at [] ts i e h = absurd (omega arith)
@@ -82,47 +76,24 @@ next-few k i n h = go (ltb (i + 1) n)
     go true = omega arith
     go false = omega arith
 
--- A part of a list, by its length and its elements.
-part-length : (xs : List ℕ) (a b : ℕ) → b ≤ length xs → length (between xs a b) ≡ b - a
-unfolding between
-part-length xs a b l = length-take (b - a) (drop a xs) ∙ rw (length-drop a xs) (omega arith)
-
-part-at : (xs : List ℕ) (a b j : ℕ) → j < b - a → getD (between xs a b) j 0 ≡ getD xs (a + j) 0
-unfolding between
-part-at xs a b j h = getD-take (b - a) (drop a xs) j 0 h ∙ getD-drop a xs j 0
-
--- One record more of the seed's that stands in arrays.
-module _ (k : ℕ) {qs ts bounds : List ℕ} {i : ℕ} (s : Stored qs ts bounds i) where
-  abbrev from : ℕ
-  from = getD bounds i 0
-
-  abbrev to : ℕ
-  to = getD bounds (i + 1) 0
-
+-- One record more of the seed's that has these nodes.
+module _ (k : ℕ) (qs ts : List ℕ) (same : length ts ≡ length qs) where
   abbrev chain : List PairRecord
-  chain = plainChain k (chainAt qs ts bounds i)
+  chain = plainChain k (pairsOf qs ts)
 
-  pub count-q : length (between qs from to) ≡ countAt bounds i
-  count-q = part-length qs from to (omega (arith, s .bounded .within, s .long-q))
+  count-pairs : length (pairsOf qs ts) ≡ length qs
+  count-pairs = count-first qs ts (omega arith)
 
-  same-length : length (between ts from to) ≡ length (between qs from to)
-  same-length = part-length ts from to (omega (arith, s .bounded .within, s .long-t)) ∙ sym count-q
-
-  pub count-pairs : length (chainAt qs ts bounds i) ≡ countAt bounds i
-  count-pairs = pairs-of-length (between qs from to) (between ts from to) same-length ∙ count-q
-
-  chain-size : length chain ≡ countAt bounds i
-  chain-size = chain-length k (chainAt qs ts bounds i) ∙ count-pairs
+  chain-size : length chain ≡ length qs
+  chain-size = chain-length k (pairsOf qs ts) ∙ count-pairs
 
   abbrev recordAt : ℕ → ℕ → PairRecord
-  recordAt j next = record { pair = pairOf (getD qs (from + j) 0) (getD ts (from + j) 0); next = next }
+  recordAt j next = record { pair = pairOf (getD qs j 0) (getD ts j 0); next = next }
 
-  chain-record : (j : ℕ) (r : PairRecord) → j < countAt bounds i → getD chain j r ≡ recordAt j (nextOf k j (countAt bounds i))
-  chain-record j r h =
-      chain-at k (chainAt qs ts bounds i) j r (rw count-pairs h)
-      ∙ rw (pairs-of-at (between qs from to) (between ts from to) j same-length (rw count-q h), part-at qs from to j h, part-at ts from to j h, count-pairs)
+  chain-record : (j : ℕ) (r : PairRecord) → j < length qs → getD chain j r ≡ recordAt j (nextOf k j (length qs))
+  chain-record j r h = chain-at k (pairsOf qs ts) j r (rw count-pairs h) ∙ rw (pairs-of-at qs ts j same h, count-pairs)
 
-  part-more : (j : ℕ) → j < countAt bounds i → pairPart (take (j + 1) chain) ≡ pairPart (take j chain) ++ pairBytes (recordAt j (nextOf k j (countAt bounds i)))
+  part-more : (j : ℕ) → j < length qs → pairPart (take (j + 1) chain) ≡ pairPart (take j chain) ++ pairBytes (recordAt j (nextOf k j (length qs)))
   part-more j h =
       let r : PairRecord = record { pair = pairOf 0 0; next = 0 } in
       let l : j < length chain = rw chain-size h in
@@ -131,7 +102,7 @@ module _ (k : ℕ) {qs ts bounds : List ℕ} {i : ℕ} (s : Stored qs ts bounds 
       ∙ pair-part-more (take j chain) (getD chain j r)
       ∙ ap (λ (p : PairRecord). pairPart (take j chain) ++ pairBytes p) (chain-record j r h)
 
-  pub chain-more : (l : List ℕ) (at j next : ℕ) {m n : List ℕ} → j < countAt bounds i → next ≡ nextOf k j (countAt bounds i) → m ≡ sets l at (pairPart (take j chain)) → n ≡ sets m (at + 4 * j) (pairBytes (recordAt j next)) → n ≡ sets l at (pairPart (take (j + 1) chain))
+  pub chain-more : (l : List ℕ) (at j next : ℕ) {m n : List ℕ} → j < length qs → next ≡ nextOf k j (length qs) → m ≡ sets l at (pairPart (take j chain)) → n ≡ sets m (at + 4 * j) (pairBytes (recordAt j next)) → n ≡ sets l at (pairPart (take (j + 1) chain))
   chain-more l at j next h f a b =
       let n : length (take j chain) ≡ j = length-take-le j chain (omega (arith, chain-size)) in
       let at-is : at + 4 * j ≡ at + length (pairPart (take j chain)) = omega (arith, pair-part-length (take j chain)) in
@@ -141,5 +112,5 @@ module _ (k : ℕ) {qs ts bounds : List ℕ} {i : ℕ} (s : Stored qs ts bounds 
   pub chain-long : (l : List ℕ) (at j : ℕ) {m : List ℕ} → m ≡ sets l at (pairPart (take j chain)) → length m ≡ length l
   chain-long l at j a = ap length a ∙ length-sets l at (pairPart (take j chain))
 
-  pub chain-all : (l : List ℕ) (at j : ℕ) {m : List ℕ} → countAt bounds i ≤ j → m ≡ sets l at (pairPart (take j chain)) → m ≡ sets l at (pairPart chain)
+  pub chain-all : (l : List ℕ) (at j : ℕ) {m : List ℕ} → length qs ≤ j → m ≡ sets l at (pairPart (take j chain)) → m ≡ sets l at (pairPart chain)
   chain-all l at j h a = a ∙ ap (λ (x : List PairRecord). sets l at (pairPart x)) (take-all j chain (omega (arith, chain-size)))

@@ -1,8 +1,8 @@
--- The plain form (document 01, "The deck"): the bytes of present seeds, and what writing them promises (ground 22). Assumes nothing.
+-- The plain form (document 01, "The deck"): the bytes of present seeds, and what writing them promises (ground 22).
 use mathlib.Core.Path.{_≡_}
-use mathlib.Core.Bool.{Bool, false, cond}
+use mathlib.Core.Bool.{true, cond}
 use mathlib.Core.List.{List, [], _∷_, _++_, map, flatten}
-use Prim.Native.Nat.{ℕ, zero, suc, _+_, _-_, _/_, _%_, _≤_, _<_}
+use Prim.Native.Nat.{ℕ, _+_, _-_, _/_, _%_, _≤_, _<_}
 use lib.ListN.{length, getD, drop}
 use lib.IntN.{ℤ, pos, negsuc}
 use lib.Signed.{mag}
@@ -13,7 +13,8 @@ use Rattle.answer.specs.declared.Place.the-variants.{Nothing}
 use Rattle.seed.specs.Tab.{tab}
 use Rattle.seed.specs.Pairs.{pairOf}
 use Rattle.seed.specs.declared.Pair.{Pair}
-use Rattle.deck.specs.Deck.{SeedRecord, PairRecord, DeckRow, chainsOf}
+use Rattle.table.specs.Rows.{Row}
+use Rattle.deck.specs.Deck.{SeedRecord, PairRecord, chainsOf}
 use Rattle.plain.specs.declared.Written.{Written}
 
 -- Two's complement of 32 bits: the number that stands for a score.
@@ -46,17 +47,12 @@ unfoldable pub plainPairs : ℕ → List (List Pair) → List PairRecord
 plainPairs k [] = []
 plainPairs k (c ∷ cs) = plainChain k c ++ plainPairs (k + length c) cs
 
-unfoldable pub plainSeeds : ℕ → List DeckRow → List SeedRecord
+unfoldable pub plainSeeds : ℕ → List Row → List SeedRecord
 plainSeeds k [] = []
 plainSeeds k (r ∷ rs) = record { score = r .score; first = k } ∷ plainSeeds (k + length (r .pairs)) rs
 
-unfoldable pub plainOf : List DeckRow → List ℕ
+unfoldable pub plainOf : List Row → List ℕ
 plainOf rows = deckOf (plainSeeds 1 rows) (plainPairs 1 (chainsOf rows))
-
--- Of f 0, f 1, .., those below n that are present, by number.
-unfoldable pub presentOf : {A : Type 0} → List Bool → (ℕ → A) → ℕ → List A
-presentOf present f zero = []
-presentOf present f (suc n) = presentOf present f n ++ cond (getD present n false) (f n ∷ []) []
 
 -- What writing these bytes into so much room answers: their length, or ground 22 and 0.
 unfoldable pub writtenOf : List ℕ → ℕ → Written
@@ -68,8 +64,8 @@ writtenOf bytes room =
 unfoldable pub outputOf : List ℕ → List ℕ → List ℕ
 outputOf bytes out = cond (leb (length bytes) (length out)) (bytes ++ drop (length bytes) out) out
 
--- What writing the deck of these seeds promises, of its answer and of the output before and after.
-pub record Writes (rows : List DeckRow) (before after : List ℕ) (r : Written) : Type 0 where
+-- What writing the deck of these rows promises, of its answer and of the output before and after.
+pub record Writes (rows : List Row) (before after : List ℕ) (r : Written) : Type 0 where
   pub answers : r ≡ writtenOf (plainOf rows) (length before)
   pub leaves : after ≡ outputOf (plainOf rows) before
 
@@ -78,12 +74,13 @@ abbrev pub All : {A : Type 0} → (A → Type 0) → List A → Type 0
 All P [] = Unit {0}
 All P (x ∷ xs) = P x × All P xs
 
--- Seeds that a deck can hold: at most 64, each with a pair and a score of 32 bits, and at most 1,024 pairs in all.
-pub record RowInLimits (r : DeckRow) : Type 0 where
+-- Rows that a deck can hold: at most 64, each present, with a pair and a score of 32 bits, and at most 1,024 pairs in all.
+pub record RowInLimits (r : Row) : Type 0 where
   pub some : 0 < length (r .pairs)
   pub score : mag (r .score) < 2147483648
+  pub present : r .present ≡ true
 
-pub record InLimits (rows : List DeckRow) : Type 0 where
+pub record InLimits (rows : List Row) : Type 0 where
   pub seeds : length rows ≤ 64
   pub pairs : length (flatten (chainsOf rows)) ≤ 1024
   pub each : All RowInLimits rows

@@ -9,11 +9,11 @@ use answer::Place;
 use parts::put_pairs;
 use parts::put_seeds;
 use records::put_counts;
-use seed::Store;
 use size::size_of;
-ghost use Rattle.seed.specs.Store.{Laid};
-ghost use Rattle.deck.specs.Handed.{rowAt};
-ghost use Rattle.plain.specs.Plain.{presentOf, Writes};
+use table::Table;
+ghost use Rattle.table.specs.Rows.{presentRows};
+ghost use Rattle.table.specs.Table.{rowsOf, Laid};
+ghost use Rattle.plain.specs.Plain.{Writes};
 
 // What writing answers, and how many bytes it wrote.
 pub struct Written {
@@ -22,17 +22,11 @@ pub struct Written {
 }
 
 // Writes the present seeds in plain form, and answers how many bytes that is.
-pub fn write(
-    store: Store,
-    seeds: usize,
-    scores: [i32; 64],
-    present: [bool; 64],
-    out: &mut [u8],
-) -> Written
-    requires { ⌜ Laid store seeds ⌝ }
-    ensures { λ r. ⌜ Writes (presentOf present (rowAt store scores) seeds) (now (out .entry)) (now (out .exit)) r ⌝ }
+pub fn write(table: Table, out: &mut [u8]) -> Written
+    requires { ⌜ Laid table ⌝ }
+    ensures { λ r. ⌜ Writes (presentRows (rowsOf table)) (now (out .entry)) (now (out .exit)) r ⌝ }
 {
-    let size = size_of(store, present, seeds);
+    let size = size_of(table);
     let start = 4 + 6 * size.seeds;
     let length = start + 4 * size.pairs;
     if out.len() < length {
@@ -45,8 +39,8 @@ pub fn write(
         };
     }
     put_counts(out, size);
-    put_seeds(out, store, scores, present, seeds);
-    put_pairs(out, start, store, present, seeds);
+    put_seeds(out, table);
+    put_pairs(out, start, table);
     Written {
         answer: Answer::Accepted,
         length,

@@ -1,49 +1,53 @@
 // The two parts of a deck behind its counts: the seed records, and the pair records.
 use super::records::put_chain;
 use super::records::put_seed;
-use super::size::count_at;
-use seed::Store;
+use table::Table;
+use table::nodes_of;
 ghost use mathlib.Core.Path.{_≡_};
 ghost use Prim.Native.Nat.{_+_, _*_, _≤_};
 ghost use lib.ListN.{length};
 ghost use lib.Seq.{sets};
-ghost use Rattle.seed.specs.Store.{Laid};
-ghost use Rattle.deck.specs.Handed.{rowAt};
-ghost use Rattle.plain.specs.Plain.{plainPairs, presentOf};
-ghost use Rattle.plain.specs.Writing.{presentChains, sizeOf, seedPart, pairPart};
+ghost use Rattle.table.specs.Rows.{presentRows};
+ghost use Rattle.table.specs.Table.{rowsOf, Laid};
+ghost use Rattle.deck.specs.Deck.{chainsOf};
+ghost use Rattle.plain.specs.Plain.{plainPairs};
+ghost use Rattle.plain.specs.Writing.{sizeOf, seedPart, pairPart};
 
 // The seed records of the present seeds, from the fifth byte on.
-pub fn put_seeds(out: &mut [u8], store: Store, scores: [i32; 64], present: [bool; 64], seeds: usize)
-    requires { ⌜ Laid store seeds × (4 + 6 * length (presentChains store present seeds) ≤ length (now out)) ⌝ }
-    ensures { λ r. ⌜ now (out .exit) ≡ sets (now (out .entry)) 4 (seedPart (presentOf present (rowAt store scores) seeds)) ⌝ }
+pub fn put_seeds(out: &mut [u8], table: Table)
+    requires { ⌜ Laid table × (4 + 6 * sizeOf (presentRows (rowsOf table)) .seeds ≤ length (now out)) ⌝ }
+    ensures { λ r. ⌜ now (out .exit) ≡ sets (now (out .entry)) 4 (seedPart (presentRows (rowsOf table))) ⌝ }
 {
     let mut at = 4;
     let mut k = 1;
     let mut i = 0;
-    while i < seeds {
+    while i < table.seeds {
         let seed = i;
         i += 1;
-        if present[seed] {
-            put_seed(out, at, scores[seed], k);
+        if table.present[seed] {
+            put_seed(out, at, table.scores[seed], k);
+            let part = nodes_of(&table.qs, &table.bounds, seed);
             at += 6;
-            k += count_at(&store.bounds, seed);
+            k += part.len();
         }
     }
 }
 
 // The pair records of the present seeds.
-pub fn put_pairs(out: &mut [u8], start: usize, store: Store, present: [bool; 64], seeds: usize)
-    requires { ⌜ Laid store seeds × (start + 4 * sizeOf (presentChains store present seeds) .pairs ≤ length (now out)) ⌝ }
-    ensures { λ r. ⌜ now (out .exit) ≡ sets (now (out .entry)) start (pairPart (plainPairs 1 (presentChains store present seeds))) ⌝ }
+pub fn put_pairs(out: &mut [u8], start: usize, table: Table)
+    requires { ⌜ Laid table × (start + 4 * sizeOf (presentRows (rowsOf table)) .pairs ≤ length (now out)) ⌝ }
+    ensures { λ r. ⌜ now (out .exit) ≡ sets (now (out .entry)) start (pairPart (plainPairs 1 (chainsOf (presentRows (rowsOf table))))) ⌝ }
 {
     let mut at = start;
     let mut k = 1;
     let mut i = 0;
-    while i < seeds {
+    while i < table.seeds {
         let seed = i;
         i += 1;
-        if present[seed] {
-            let n = put_chain(out, at, k, &store.qs, &store.ts, &store.bounds, seed);
+        if table.present[seed] {
+            let qs = nodes_of(&table.qs, &table.bounds, seed);
+            let ts = nodes_of(&table.ts, &table.bounds, seed);
+            let n = put_chain(out, at, k, qs, ts);
             at += 4 * n;
             k += n;
         }

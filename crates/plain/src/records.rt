@@ -1,14 +1,13 @@
 // The counts and the records of a deck, put to a lent output.
 use super::size::Size;
-use super::size::count_at;
 ghost use mathlib.Core.Path.{_≡_};
 ghost use mathlib.Core.List.{_∷_};
 ghost use Prim.Native.Nat.{_+_, _*_, _≤_, _<_};
 ghost use lib.ListN.{length};
 ghost use lib.Seq.{sets};
-ghost use Rattle.seed.specs.Pairs.{pairOf};
+ghost use Rattle.seed.specs.Pairs.{pairOf, pairsOf};
 ghost use Rattle.plain.specs.Plain.{unsigned, bytes16, seedBytes, pairBytes, plainChain};
-ghost use Rattle.plain.specs.Writing.{Stored, countAt, chainAt, nextOf, pairPart};
+ghost use Rattle.plain.specs.Writing.{nextOf, pairPart};
 
 // A number of 16 bits, at `at`.
 fn put_number(out: &mut [u8], at: usize, n: usize)
@@ -69,25 +68,16 @@ fn put_pair(out: &mut [u8], at: usize, q: u8, t: u8, next: usize)
     put_number(out, at + 2, next);
 }
 
-// The pair records of seed i, the first of them number k; answers how many they are.
-pub fn put_chain<'a>(
-    out: &mut [u8],
-    at: usize,
-    k: usize,
-    qs: &'a [u8; 1024],
-    ts: &'a [u8; 1024],
-    bounds: &'a [u16; 65],
-    i: usize,
-) -> usize
-    requires { ⌜ Stored (now qs) (now ts) (now bounds) i ⌝ ∗ ⌜ (k + countAt (now bounds) i ≤ 1025) × (at + 4 * countAt (now bounds) i ≤ length (now out)) ⌝ }
-    ensures { λ r. ⌜ (r ≡ countAt (now (bounds .entry)) i) × (now (out .exit) ≡ sets (now (out .entry)) at (pairPart (plainChain k (chainAt (now (qs .entry)) (now (ts .entry)) (now (bounds .entry)) i)))) ⌝ }
+// The pair records of a seed, the first of them number k; answers how many they are.
+pub fn put_chain<'a>(out: &mut [u8], at: usize, k: usize, qs: &'a [u8], ts: &'a [u8]) -> usize
+    requires { ⌜ (length (now ts) ≡ length (now qs)) × (k + length (now qs) ≤ 1025) × (at + 4 * length (now qs) ≤ length (now out)) ⌝ }
+    ensures { λ r. ⌜ (r ≡ length (now (qs .entry))) × (now (out .exit) ≡ sets (now (out .entry)) at (pairPart (plainChain k (pairsOf (now (qs .entry)) (now (ts .entry)))))) ⌝ }
 {
-    let from = bounds[i] as usize;
-    let n = count_at(bounds, i);
+    let n = qs.len();
     let mut j = 0;
     while j < n {
         let next = next_of(k, j, n);
-        put_pair(out, at + 4 * j, qs[from + j], ts[from + j], next);
+        put_pair(out, at + 4 * j, qs[j], ts[j], next);
         j += 1;
     }
     n

@@ -1,4 +1,4 @@
--- `records::bits_of` meets its contract. Assumes nothing.
+-- `records::bits_of` meets its contract.
 use mir.Facts.{toZ-ofZ, sfits-widen}
 use Rattle.plain.proofs.Scores.{below-zero, not-below, unsigned-fits, unsigned-room}
 use Rattle.plain.proofs.records.bits_of.Statement.{statement}

@@ -1,4 +1,4 @@
--- `records::next_of` meets its contract. Assumes nothing.
+-- `records::next_of` meets its contract.
 use borrow.Author.Tests.{lt-ltb, le-ltb}
 use borrow.Author.Needs.{needs}
 use Rattle.plain.proofs.records.next_of.Statement.{statement}

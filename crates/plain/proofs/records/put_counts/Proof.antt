@@ -1,4 +1,4 @@
--- `records::put_counts` meets its contract. Assumes nothing.
+-- `records::put_counts` meets its contract.
 use native.Mathlib.Omega.{arith}
 use lib.ListN.{length, length-set}
 use lib.Seq.{length-sets}

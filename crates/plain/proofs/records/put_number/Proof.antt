@@ -1,4 +1,4 @@
--- `records::put_number` meets its contract. Assumes nothing.
+-- `records::put_number` meets its contract.
 use native.Mathlib.Omega.{arith}
 use native.Mathlib.Numerals.{add-one}
 use lib.ListN.{length-set}

@@ -1,4 +1,4 @@
--- `records::put_pair` meets its contract. Assumes nothing.
+-- `records::put_pair` meets its contract.
 use mathlib.Core.Path.{ap, _∙_}
 use native.Mathlib.Omega.{arith}
 use native.Mathlib.Numerals.{add-one, add-two}
@@ -22,14 +22,15 @@ add-put-number : tie.Need-add-put-number
 add-put-number c = search needs
 
 put-number-requires : tie.Need-put-number-requires
-put-number-requires c κs = ((c .before .before .pre .0), simp length-set (omega (arith, (c .before .before .pre .1))))
+put-number-requires c κs = let pre = c .before .before .pre in (pre .0, simp length-set (omega (arith, pre .1)))
 
 same-length : tie.Need-same-length
 same-length c = ap length (c .before .before .put-number .ensures) ∙ simp (length-sets, length-set)
 
 returns : tie.Need-returns
 unfolding pairBytes
-returns c = (c .before .before .put-number .ensures) ∙ rw (add-two (c .before .before .before .before .before .args .at), add-one (c .before .before .before .before .before .args .at))
+returns c = let at = c .before .before .before .before .before .args .at in
+    c .before .before .put-number .ensures ∙ rw (add-two at, add-one at)
 
 pub put-pair-spec : {M : Type 1} → statement M
 put-pair-spec =

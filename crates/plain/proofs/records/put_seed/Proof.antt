@@ -1,4 +1,4 @@
--- `records::put_seed` meets its contract. Assumes nothing.
+-- `records::put_seed` meets its contract.
 use mathlib.Core.Path.{_≡_}
 use Prim.Native.Nat.{_<_}
 use native.Mathlib.Omega.{arith}
@@ -39,7 +39,9 @@ same-length : tie.Need-same-length
 same-length c = search needs
 
 returns : tie.Need-returns
-returns c = seed-put _ _ _ _ _ (bits (c .before .before .before .before .before .before .before .before .before .before .before .before)) (c .before .before .before .before .before .before .before .before .before .before .put-number .ensures) (c .before .before .before .before .before .before .put-number2 .ensures) (c .before .before .put-number3 .ensures)
+returns c = let second = c .before .before .before .before .before .before in
+    let first = second .before .before .before .before in
+    seed-put _ _ _ _ _ (bits (first .before .before)) (first .put-number .ensures) (second .put-number2 .ensures) (c .before .before .put-number3 .ensures)
 
 pub put-seed-spec : {M : Type 1} → statement M
 put-seed-spec =
