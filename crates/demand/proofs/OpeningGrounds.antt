@@ -127,15 +127,14 @@ deal-answer : (a : Answer) (whole : Deal) → whole .answer ≡ Accepted → a �
 deal-answer Accepted whole e = sym e
 deal-answer (Refused g p) whole e = refl
 
+by-parts : (q t d : List ℕ) → Decides (DeckSays q t d) (dealAnswer q t d)
+unfolding dealAnswer deckAnswer opening
+by-parts q t d =
+    let trees = are-trees q t (bothRead q t) refl in
+    in-order (bothRead q t .answer) (open-decides q t)
+    (in-order (answerOf (deck.reading d)) record { judged = decks.judged d; decided = decks.decided d }
+    (seeds-decide (rowsIn (deck.reading d)) (opening q t .state) (tree-nested _ (trees .0)) (tree-nested _ (trees .1)) (deck-fits q t d)))
+
 pub deck-decides : (q t d : List ℕ) → Decides (DeckSays q t d) (deckOpening q t d .answer)
-unfolding deckOpening dealOf opening
-deck-decides q t d =
-    subst (Decides (DeckSays q t d)) (deal-answer (dealAnswer q t d) _ refl) by-parts
-  where
-    by-parts : Decides (DeckSays q t d) (dealAnswer q t d)
-    unfolding dealAnswer deckAnswer opening
-    by-parts =
-        let trees = are-trees q t (bothRead q t) refl in
-        in-order (bothRead q t .answer) (open-decides q t)
-        (in-order (answerOf (deck.reading d)) record { judged = decks.judged d; decided = decks.decided d }
-        (seeds-decide (rowsIn (deck.reading d)) (opening q t .state) (tree-nested _ (trees .0)) (tree-nested _ (trees .1)) (deck-fits q t d)))
+unfolding deckOpening dealOf
+deck-decides q t d = subst (Decides (DeckSays q t d)) (deal-answer (dealAnswer q t d) _ refl) (by-parts q t d)

@@ -81,15 +81,15 @@ module _ (t : Table) where
       let w = below-rest i (t .seeds) h in
       (omega (arith, ap length (w .1), length-append (presentBelow t i) (w .0)), omega (arith, ap pairsIn (w .1), pairs-append (presentBelow t i) (w .0)))
 
+  pub count-more : (i : ℕ) → getD (t .present) i false ≡ true → length (presentBelow t (i + 1)) ≡ length (presentBelow t i) + 1
+  count-more i e = ap length (below-more i e) ∙ length-append (presentBelow t i) (rowAt t i ∷ [])
+
   module _ (h : Laid t) where
     pub seeds-few : length (presentRows (rowsOf t)) ≤ 64
     seeds-few = omega (arith, present-few (rowsOf t) .0, rows-length t, h .few)
 
     pub pairs-few : pairsIn (presentRows (rowsOf t)) ≤ 1024
     pairs-few = omega (arith, present-few (rowsOf t) .1, rows-count t h, h .fit)
-
-    pub count-more : (i : ℕ) → getD (t .present) i false ≡ true → length (presentBelow t (i + 1)) ≡ length (presentBelow t i) + 1
-    count-more i e = ap length (below-more i e) ∙ length-append (presentBelow t i) (rowAt t i ∷ [])
 
     pub total-more : (i : ℕ) → i < t .seeds → getD (t .present) i false ≡ true → pairsIn (presentBelow t (i + 1)) ≡ pairsIn (presentBelow t i) + length (nodesOf (t .qs) (t .bounds) i)
     unfolding rowAt

@@ -37,7 +37,7 @@ module _ (t : Table) (h : Laid t) {size : Size} {i : ℕ} (is : size ≡ sizeOf 
   pub size-more : getD (t .present) i false ≡ true → {m : ℕ} → m ≡ length (nodesOf (t .qs) (t .bounds) i) → record { seeds = size .seeds + 1; pairs = size .pairs + m } ≡ sizeOf (presentBelow t (i + 1))
   size-more e {m} c =
       ap (λ (z : Size). record { seeds = z .seeds + 1; pairs = z .pairs + m }) is
-      ∙ ap₂ (λ (x y : ℕ). record { seeds = x; pairs = y }) (sym (count-more t h i e)) (ap (λ (n : ℕ). pairsIn (presentBelow t i) + n) c ∙ sym (total-more t h i l e))
+      ∙ ap₂ (λ (x y : ℕ). record { seeds = x; pairs = y }) (sym (count-more t i e)) (ap (λ (n : ℕ). pairsIn (presentBelow t i) + n) c ∙ sym (total-more t h i l e))
 
 -- What holds of the output while the seed records are written, and while the pair records are.
 pub record Seeding (t : Table) (before out : List ℕ) (at k i : ℕ) : Type 0 where
@@ -79,7 +79,7 @@ module _ (t : Table) (h : Laid t) {before out : List ℕ} {at k i : ℕ} (w : Se
 
   module _ (e : getD (t .present) i false ≡ true) where
     pub seeding-room : 4 + 6 * length (presentRows (rowsOf t)) ≤ length before → at + 6 ≤ length out
-    seeding-room r = omega (arith, w .place, w .as-long, count-more t h i e, below-few t (i + 1) (omega arith))
+    seeding-room r = omega (arith, w .place, w .as-long, count-more t i e, below-few t (i + 1) (omega arith))
 
     pub seeding-few : k + length (nodesOf (t .qs) (t .bounds) i) ≤ 1025
     seeding-few = omega (arith, w .number, total-more t h i l e, below-few t (i + 1) (omega arith), pairs-few t h)
@@ -92,7 +92,7 @@ module _ (t : Table) (h : Laid t) {before out : List ℕ} {at k i : ℕ} (w : Se
         record {
           few = omega arith;
           as-long = ap length a ∙ simp length-sets (w .as-long);
-          place = omega (arith, w .place, count-more t h i e);
+          place = omega (arith, w .place, count-more t i e);
           number = omega (arith, w .number, total-more t h i l e);
           wrote =
               put-after before 4 (seedPart rows) _ (w .wrote) a at-is

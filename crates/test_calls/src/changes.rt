@@ -2,8 +2,8 @@
 use answer::Answer;
 use chain::Changed;
 use chain::Session;
-use test_lent::PairList;
 use seed::Pair;
+use test_lent::PairList;
 use test_words::Text;
 use test_words::answers::with_answer;
 use test_words::blank;

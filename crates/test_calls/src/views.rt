@@ -172,10 +172,7 @@ fn with_score(t: Text, score: i32) -> Text {
 
 // A space and a pair.
 fn with_pair(t: Text, pair: Pair) -> Text {
-    with_number(
-        with_byte(with_spaced(t, wide(pair.q)), b':'),
-        wide(pair.t),
-    )
+    with_number(with_byte(with_spaced(t, wide(pair.q)), b':'), wide(pair.t))
 }
 
 fn with_presence(t: Text, present: bool) -> Text {
