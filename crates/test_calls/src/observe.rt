@@ -62,14 +62,20 @@ fn put_row(session: Session, number: usize, out: &mut [u8], at: usize) -> usize
     put_total(out, present, row.pairs as u64)
 }
 
+fn put_seed(session: Session, number: usize, out: &mut [u8], at: usize) -> usize
+    requires { ⌜ Sound session ⌝ }
+{
+    let end = put_areas(session, number, out, at);
+    put_row(session, number, out, end)
+}
+
 // The areas and the rows of the seeds 1 to 8.
 fn put_all_seeds(session: Session, out: &mut [u8], at: usize) -> usize
     requires { ⌜ Sound session ⌝ }
 {
     let mut end = at;
     for number in 1..9 {
-        end = put_areas(session, number, out, end);
-        end = put_row(session, number, out, end);
+        end = put_seed(session, number, out, end);
     }
     end
 }

@@ -163,11 +163,12 @@ pub fn deck(session: Session, s: &[u8], at: usize) -> Text
 // A space and a score.
 fn with_score(t: Text, score: i32) -> Text {
     let spaced = with_byte(t, b' ');
-    if score < 0 {
-        let below = -(score as i64);
-        return with_number(with_byte(spaced, b'-'), below as usize);
+    let wide = score as i64;
+    if wide < 0 {
+        let bits = (wide + 4294967296) as usize;
+        return with_number(with_byte(spaced, b'-'), 4294967296 - bits);
     }
-    with_number(spaced, score as usize)
+    with_number(spaced, wide as usize)
 }
 
 // A space and a pair.

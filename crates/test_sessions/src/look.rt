@@ -8,7 +8,7 @@ use test_brute::seeds::List;
 use test_brute::seeds::Trees;
 use test_brute::seeds::both;
 use test_brute::seeds::last;
-use test_brute::table;
+use test_brute::table as brute;
 use test_brute::table::Choice;
 use test_brute::table::Table;
 use test_brute::table::has;
@@ -101,7 +101,7 @@ pub fn best(p: Play) -> Play
     let table = p.table;
     let seen = p.seen;
     let count = p.count;
-    let choice = table::best(table);
+    let choice = brute::best(table);
     let right = best_right(best_of(session), choice);
     noted(
         p,
@@ -140,7 +140,7 @@ fn listing_of(p: Play, i: usize) -> Listing
     let table = p.table;
     let trees = p.trees;
     let mut out = [0u8; 1024];
-    listed_right(session, more(i), trees, table::seed(table, i), &mut out)
+    listed_right(session, more(i), trees, brute::seed(table, i), &mut out)
 }
 
 // Whether the row of the seed at a place is the table's.
@@ -152,7 +152,7 @@ fn row_right(p: Play, i: usize) -> bool
     let shown = session.row(more(i));
     let row = shown.row;
     let pair = row.last;
-    let list = table::seed(table, i);
+    let list = brute::seed(table, i);
     let q = list.q;
     let t = list.t;
     let ends = both(pair.q as usize == last(q), pair.t as usize == last(t));
