@@ -22,10 +22,10 @@ use Rattle.optimum.specs.Key.{inMask}
 use Rattle.optimum.specs.Table.{stored}
 use Rattle.optimum.specs.Table as optimum
 use Rattle.optimum.proofs.Booleans.{and-r}
-use Rattle.best.specs.Standing.{pairsIn, scoreIn, Stood}
+use Rattle.standing.specs.Standing.{pairsIn, scoreIn, Stood}
 use Rattle.best.specs.Best.{keyOf, scratchNeeded, refused, bestOf, scratchAfter, Answered}
-use Rattle.best.specs.Scratch.{scoreAt, itemsOf, Posed}
-use Rattle.best.specs.declared.standing.Standing.{Standing}
+use Rattle.best.specs.Scratch.{scoreBy, itemsOf, Posed}
+use Rattle.standing.specs.declared.Standing.{Standing}
 use Rattle.best.proofs.Listing.{posed, key-is}
 
 module _ (q t : Tree) (table : Table) where
@@ -49,11 +49,11 @@ module _ (q t : Tree) (table : Table) where
     seeds : (i : ℕ) → i < length (rowsOf table) → Seed (leavesOf q) (leavesOf t) (pairsIn (rowsOf table) i)
     seeds i b = h .each i b .seed
 
-    score-row : (i : ℕ) → i < length (rowsOf table) → scoreAt (table .scores) i ≡ scoreIn (rowsOf table) i
+    score-row : (i : ℕ) → i < length (rowsOf table) → scoreBy (table .scores) i ≡ scoreIn (rowsOf table) i
     unfolding rowAt
     score-row i b = sym (ap (λ (r : Row). r .score) (row-there table i (omega (arith, rows-length table))))
 
-    most : (i : ℕ) → i < length (rowsOf table) → scoreAt (table .scores) i ≤ℤ pos 1000000
+    most : (i : ℕ) → i < length (rowsOf table) → scoreBy (table .scores) i ≤ℤ pos 1000000
     unfolding inRange
     most i b =
         let z = scoreIn (rowsOf table) i in

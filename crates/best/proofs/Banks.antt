@@ -15,9 +15,10 @@ use Rattle.optimum.specs.Key.{Key, empty, better, inMask}
 use Rattle.optimum.specs.Table.{maxBelow, stored}
 use Rattle.optimum.proofs.Keys.{_≼_, ≼-refl, ≼-trans, ≼-antisym, better-l, better-r, better-ind}
 use Rattle.optimum.proofs.Maxima.{max-empty, max-upper, max-least}
-use Rattle.best.specs.Scratch.{keyAt, rows, minus, marked, Rising}
-use Rattle.best.proofs.Bits.{in-either, alone-is, minus-from, minus-gone}
-use Rattle.best.proofs.Members.{nothing}
+use Rattle.masks.specs.Masks.{minus}
+use Rattle.best.specs.Scratch.{keyAt, rows, marked, Rising}
+use Rattle.masks.proofs.Bits.{in-either, alone-is, minus-from, minus-gone}
+use Rattle.masks.proofs.Bits.{nothing}
 
 module _ (xs ys : List ℕ) (base k t m : ℕ) (e : ys ≡ set (set xs (base + k) t) (base + 64 + k) m) where
   pub put-long : length ys ≡ length xs

@@ -29,10 +29,10 @@ use Rattle.table.specs.Rows.{Row}
 use Rattle.table.specs.Table.{rowsOf, Kept}
 use Rattle.table.specs.declared.Table.{Table}
 use Rattle.table.proofs.Tables.{rows-length}
-use Rattle.best.specs.Standing.{pairsIn, scoreIn, presentIn}
+use Rattle.standing.specs.Standing.{pairsIn, scoreIn, presentIn}
 use Rattle.best.specs.Best.{keyOf, accepted, scratchNeeded, bestOf, seedsOf, NamesBest, Answered}
 use Rattle.best.specs.declared.Best.{Best}
-use Rattle.best.proofs.Bits.{told-yes}
+use Rattle.masks.proofs.Bits.{told-yes}
 
 -- ---- the list of 64 answers
 

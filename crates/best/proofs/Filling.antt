@@ -1,12 +1,11 @@
--- Lists that are filled place by place.
+-- A list that is zeroed place by place.
 use mathlib.Core.Path.{_≡_, ap, _∙_}
 use mathlib.Core.List.{List, _++_, append-nil}
 use Prim.Native.Nat.{ℕ, _+_, _≤_, _<_}
 use native.Mathlib.Omega.{arith}
-use borrow.Author.Count.{below-more}
 use borrow.Author.Fill.{fill-more}
-use lib.ListN.{length, getD, set, drop, replicate}
-use lib.Seq.{drop-length, getD-set-same, getD-set-other}
+use lib.ListN.{length, set, drop, replicate}
+use lib.Seq.{drop-length}
 
 -- One zero more.
 pub zero-more : (d r : List ℕ) (i : ℕ) → i < length d → r ≡ replicate i 0 ++ drop i d → set r i 0 ≡ replicate (i + 1) 0 ++ drop (i + 1) d
@@ -16,10 +15,3 @@ pub zero-done : (d r : List ℕ) (i : ℕ) → i ≤ length d → length d ≤ i
 zero-done d r i h l e =
     let x : i ≡ length d = omega arith in
     e ∙ ap (λ (n : ℕ). replicate n 0 ++ drop n d) x ∙ ap (λ (t : List ℕ). replicate (length d) 0 ++ t) (drop-length d) ∙ append-nil (replicate (length d) 0)
-
--- What is stored at k is what f gives for k, as it is below k.
-pub set-below : {A : Type 0} (f : ℕ → A) (l : List A) (k : ℕ) (v d : A) → k < length l → v ≡ f k → ((j : ℕ) → j < k → getD l j d ≡ f j) → (j : ℕ) → j < k + 1 → getD (set l k v) j d ≡ f j
-set-below {A} f l k v d h e all =
-    below-more (λ (j : ℕ). getD (set l k v) j d ≡ f j) k
-    (λ j m. getD-set-other l k j v d (λ x. omega arith) ∙ all j m)
-    (getD-set-same l k v d h ∙ e)

@@ -24,11 +24,11 @@ use Rattle.optimum.specs.Key.{inMask, maskOf}
 use Rattle.optimum.specs.Table.{Items, Laws, Numbered, chainable, bestOf}
 use Rattle.optimum.proofs.Booleans.{T-eq, and-i, or-l, or-r, or-e}
 use Rattle.optimum.proofs.BestChain.{Listed, best-agrees}
-use Rattle.best.specs.Standing.{pairsIn, scoreIn, rankIn, numberAt, seedAt, Stood}
+use Rattle.standing.specs.Standing.{pairsIn, scoreIn, rankIn, numberAt, seedAt, Stood}
 use Rattle.best.specs.Best.{keyOf, seedsOf}
-use Rattle.best.specs.Scratch.{marked, scoreAt, itemsOf, Posed}
-use Rattle.best.specs.declared.standing.Standing.{Standing}
-use Rattle.best.proofs.Bits.{mask-has, mask-says, told-yes}
+use Rattle.best.specs.Scratch.{marked, scoreBy, itemsOf, Posed}
+use Rattle.standing.specs.declared.Standing.{Standing}
+use Rattle.masks.proofs.Bits.{mask-has, mask-says, told-yes}
 use Rattle.best.proofs.BestChain.{numbered}
 
 -- A mask of the seeds before y has x if x is before y and passes.
@@ -90,7 +90,7 @@ module _ {Q T′ : List ℕ} (tree-q : Nested Q) (tree-t : Nested T′) (rows : 
           left-rises = λ x y a b t. left-says x y b t .0;
         }
 
-    places : (limit : ℕ) → length rows ≤ limit → (score : ℕ → ℤ) → ((i : ℕ) → i < length rows → scoreAt scores i ≡ score i) → Numbered limit score (numberAt (s .numbers)) (items .worth) (s .count)
+    places : (limit : ℕ) → length rows ≤ limit → (score : ℕ → ℤ) → ((i : ℕ) → i < length rows → scoreBy scores i ≡ score i) → Numbered limit score (numberAt (s .numbers)) (items .worth) (s .count)
     places limit h score same =
         record {
           within = λ k b. omega (arith, o .within k b);
@@ -98,7 +98,7 @@ module _ {Q T′ : List ℕ} (tree-q : Nested Q) (tree-t : Nested T′) (rows : 
           worths = λ k b. rw (same (numberAt (s .numbers) k) (o .within k b));
         }
 
-    pub posed : ((i : ℕ) → i < length rows → scoreAt scores i ≤ℤ pos 1000000) → Posed s scores
+    pub posed : ((i : ℕ) → i < length rows → scoreBy scores i ≤ℤ pos 1000000) → Posed s scores
     posed most =
         record {
           lefts-long = omega (arith, o .room-lefts, o .few);
@@ -107,14 +107,14 @@ module _ {Q T′ : List ℕ} (tree-q : Nested Q) (tree-t : Nested T′) (rows : 
           before = λ j k b t. left-says j k b t .0;
           laws = table-laws;
           limited = record {
-            numbered = places 64 few (scoreAt scores) (λ i b. refl);
+            numbered = places 64 few (scoreBy scores) (λ i b. refl);
             numbers = omega arith;
             items = omega (arith, o .few);
             scores = λ k b. most (numberAt (s .numbers) k) (o .within k b);
           };
         }
 
-    module _ (same : (i : ℕ) → i < length rows → scoreAt scores i ≡ scoreIn rows i) where
+    module _ (same : (i : ℕ) → i < length rows → scoreBy scores i ≡ scoreIn rows i) where
       abbrev S : Seeds
       S = seedsOf Q T′ rows
 

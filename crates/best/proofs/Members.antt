@@ -1,20 +1,20 @@
--- The lowest and the highest number of a mask, and the numbers taken off from the lowest on.
+-- The lowest number of a mask, and the numbers taken off from the lowest on.
 use mathlib.Core.Path.{_≡_, refl, sym, ap, ap₂, _∙_}
 use mathlib.Core.Bool.{Bool, true, false, cond, _&&_, false≢true}
 use mathlib.Core.Logic.{_≢_, inl, inr}
 use Prim.Native.Nat.{ℕ, zero, suc, _+_, _-_, _*_, _/_, _%_, _^_, _≤_, _<_}
-use lib.Pow.{pow-pos, split, high, low, mod-pow-add}
-use native.Mathlib.Nat.{suc-mul, mul-assoc, pow-succ', pow-le-pow-right, div-eq-of-lt, div-div-eq-div-mul}
+use lib.Pow.{pow-pos, split, low, mod-pow-add}
+use native.Mathlib.Nat.{suc-mul, mul-assoc, pow-succ', div-div-eq-div-mul}
 use native.Mathlib.Omega.{arith}
-use borrow.Author.Tests.{lt-ltb, le-ltb, le-leb, lt-leb, eqb-true, eqb-false}
+use borrow.Author.Tests.{lt-ltb, le-leb, lt-leb, eqb-true, eqb-false}
 use lib.Bits.{bitAnd, and-block, and-self, and-mask}
-use lib.Count.{leadingZeros, trailingZeros, leading-top}
+use lib.Count.{trailingZeros}
 use lib.Dec.{eqb, leb}
 use Rattle.tree.proofs.Leaves.{lt-or-le}
 use Rattle.optimum.specs.Key.{maskOf, inMask}
 use Rattle.optimum.proofs.Masks.{mask-self}
-use Rattle.best.specs.Scratch.{Lowest, Highest}
-use Rattle.best.proofs.Bits.{mask-same, mask-has}
+use Rattle.masks.proofs.Bits.{mask-same, mask-has, nothing}
+use Rattle.best.specs.Scratch.{Lowest}
 
 -- ---- the lowest number of a mask
 
@@ -89,30 +89,6 @@ lowest-off n z l =
     mod-self : 2 ^ z % 2 ^ z ≡ 0
     mod-self = let e : 1 * 2 ^ z + 0 ≡ 2 ^ z = omega arith in ap (λ (x : ℕ). x % 2 ^ z) (sym e) ∙ low 1 z (pow-pos z)
 
--- ---- the highest number of a mask
-
-above-zero : (n : ℕ) → n ≢ 0 → 0 < n
-above-zero zero e = absurd (e refl)
-above-zero (suc n) e = omega arith
-
-pub some-digit : (mask : ℕ) → mask ≢ 0 → mask < 2 ^ 64 → leadingZeros 64 mask ≤ 63
-some-digit mask h b = omega (arith, leading-top 64 mask (above-zero mask h) b .1)
-
-pub highest-is : (mask : ℕ) → mask ≢ 0 → mask < 2 ^ 64 → Highest mask (63 - leadingZeros 64 mask)
-unfolding inMask
-highest-is mask h b =
-    let t = leading-top 64 mask (above-zero mask h) b in
-    let e : 63 - leadingZeros 64 mask ≡ t .0 = omega (arith, t .1) in
-    rw e (record { few = omega (arith, t .1); has = ap (λ (x : ℕ). eqb (x % 2) 1) (digit (t .0) (t .2) (t .3)); none = λ j l. ap (λ (x : ℕ). eqb (x % 2) 1) (none (t .0) (t .3) j l) })
-  where
-    digit : (k : ℕ) → 2 ^ k ≤ mask → mask < 2 ^ suc k → mask / 2 ^ k ≡ 1
-    digit k l u =
-        let e : mask ≡ 1 * 2 ^ k + (mask - 2 ^ k) = omega arith in
-        ap (λ (x : ℕ). x / 2 ^ k) e ∙ high 1 k (omega (arith, pow-succ' 2 k))
-
-    none : (k : ℕ) → mask < 2 ^ suc k → (j : ℕ) → k < j → mask / 2 ^ j ≡ 0
-    none k u j l = div-eq-of-lt (omega (arith, pow-le-pow-right {n = 2} (omega arith) l))
-
 -- ---- a mask without its lowest numbers
 
 -- A set without one of its numbers.
@@ -139,10 +115,6 @@ pub record Left (mask k rest : ℕ) : Type 0 where
 
 pub left-start : (mask : ℕ) → mask < 2 ^ 64 → Left mask 0 mask
 left-start mask b = record { is = mask-self 64 mask b ∙ mask-same (inMask mask) (above mask 0) 64 (λ j h. rw (le-leb 0 j (omega arith))) }
-
-pub nothing : (j : ℕ) → inMask 0 j ≡ false
-unfolding maskOf
-nothing j = mask-has (λ i. false) 0 j ∙ rw (le-ltb j 0 (omega arith))
 
 module _ {mask k rest : ℕ} (h : Left mask k rest) where
   has : (j : ℕ) → j < 64 → inMask rest j ≡ above mask k j

@@ -21,10 +21,10 @@ use Rattle.optimum.proofs.Chains.{best-cong}
 use Rattle.optimum.proofs.Split.{Down, down-under}
 use Rattle.optimum.proofs.Recurrence.{row-next, row-rises, row-best, filled-next}
 use Rattle.optimum.proofs.Bounds.{entry-small, best-small, under-small}
-use Rattle.best.specs.Standing.{numberAt}
-use Rattle.best.specs.Scratch.{keyAt, items, rows, marked, scoreAt, itemsOf, Rising, entryOf, EntryRoom, RowRoom, RowFilled, Posed, ItemsFilled}
-use Rattle.best.specs.declared.standing.Standing.{Standing}
-use Rattle.best.proofs.Bits.{common, all-ones}
+use Rattle.standing.specs.Standing.{numberAt}
+use Rattle.best.specs.Scratch.{keyAt, items, rows, marked, scoreBy, itemsOf, Rising, entryOf, EntryRoom, RowRoom, RowFilled, Posed, ItemsFilled}
+use Rattle.standing.specs.declared.Standing.{Standing}
+use Rattle.masks.proofs.Bits.{common, all-ones}
 use Rattle.best.proofs.Banks.{put-long, put-beside, put-here, put-before, max-start, max-past, max-turn}
 
 both : (lefts : List ℕ) (row k : ℕ) → (λ j. inMask row j && marked lefts j k) ≡ inMask (bitAnd row (getD lefts k 0))
@@ -152,7 +152,7 @@ module _ (s : Standing) (scores : List ℤ) (h : Posed s scores) where
           long = long;
           before = λ j k a. h .before j k (omega arith);
           clipped = λ k a. rw (f k a) (better-right (better-l empty (withUnder S k)));
-          small = λ d k a on r t m. entry-small S n 64 (scoreAt scores) (numberAt (s .numbers)) (h .limited) (h .laws) (inMask row) dp (keyAt xs items) d y k b a on f r t m;
+          small = λ d k a on r t m. entry-small S n 64 (scoreBy scores) (numberAt (s .numbers)) (h .limited) (h .laws) (inMask row) dp (keyAt xs items) d y k b a on f r t m;
         }
 
     top : (ys : List ℕ) {best : Key} → RowFilled xs lefts row y ys best → best ≡ bestOf S (inMask row) y
@@ -174,12 +174,12 @@ module _ (s : Standing) (scores : List ℤ) (h : Posed s scores) where
 
         pub item-small : (t ≤ 64000000) × (2 ^ numberAt (s .numbers) y + m < 2 ^ 64)
         item-small = (
-          best-small S n 64 (scoreAt scores) (numberAt (s .numbers)) (h .limited) (λ x. S .under x y) y (omega arith) t m under-is .total,
-          under-small S n 64 (scoreAt scores) (numberAt (s .numbers)) (h .limited) y b t m under-is,
+          best-small S n 64 (scoreBy scores) (numberAt (s .numbers)) (h .limited) (λ x. S .under x y) y (omega arith) t m under-is .total,
+          under-small S n 64 (scoreBy scores) (numberAt (s .numbers)) (h .limited) y b t m under-is,
         )
 
         -- One item more.
-        pub item-turn : (zs : List ℕ) (t′ m′ : ℕ) → stored t′ m′ ≡ better empty (seedKey (scoreAt scores) (numberAt (s .numbers) y) ⊕ stored t m) → zs ≡ set (set ys (items + y) t′) (items + 64 + y) m′ → ItemsFilled S xs₀ (y + 1) zs
+        pub item-turn : (zs : List ℕ) (t′ m′ : ℕ) → stored t′ m′ ≡ better empty (seedKey (scoreBy scores) (numberAt (s .numbers) y) ⊕ stored t m) → zs ≡ set (set ys (items + y) t′) (items + 64 + y) m′ → ItemsFilled S xs₀ (y + 1) zs
         item-turn zs t′ m′ c q =
             record {
               long = put-long ys zs items y t′ m′ q ∙ g .long ∙ f .long;

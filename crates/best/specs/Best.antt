@@ -20,7 +20,7 @@ use Rattle.table.specs.declared.Table.{Table}
 use Rattle.optimum.specs.Chain.{Seeds, total, IsBest}
 use Rattle.optimum.specs.Key.{Key, seedKey, inMask}
 use Rattle.optimum.specs.Best as optimum
-use Rattle.best.specs.Standing.{pairsIn, scoreIn, presentIn}
+use Rattle.standing.specs.Standing.{pairsIn, scoreIn, presentIn}
 use Rattle.best.specs.declared.Best.{Best}
 
 -- The key of the best chain of the present seeds of a table, by trying all chains.

@@ -1,5 +1,2 @@
-pub mod Standing
-pub mod Order
-pub mod Stands
 pub mod Scratch
 pub mod Best

@@ -1,16 +1,16 @@
 -- The table on the scratch: keys in banks of 64 totals and 64 masks, over items of which masks say what stands left of them and under them.
 use mathlib.Core.Path.{_≡_}
-use mathlib.Core.Bool.{Bool, true, false, not, _&&_}
+use mathlib.Core.Bool.{Bool, true, false, _&&_}
 use mathlib.Core.List.{List}
 use Prim.Native.Nat.{ℕ, _+_, _≤_, _<_}
 use lib.Bits.{bitAnd}
 use lib.Dec.{T}
 use lib.IntN.{ℤ, pos}
 use lib.ListN.{length, getD}
-use Rattle.optimum.specs.Key.{Key, empty, _⊕_, better, seedKey, maskOf, inMask}
+use Rattle.optimum.specs.Key.{Key, empty, _⊕_, better, seedKey, inMask}
 use Rattle.optimum.specs.Table.{Items, Laws, Limited, maxBelow, Filled, Row, stored, Small}
-use Rattle.best.specs.Standing.{numberAt}
-use Rattle.best.specs.declared.standing.Standing.{Standing}
+use Rattle.standing.specs.Standing.{numberAt}
+use Rattle.standing.specs.declared.Standing.{Standing}
 
 -- The key at place k of the bank that begins at base.
 abbrev pub keyAt : List ℕ → ℕ → ℕ → Key
@@ -29,27 +29,17 @@ pub record Lowest (mask k : ℕ) : Type 0 where
   pub has : inMask mask k ≡ true
   pub none : (j : ℕ) → j < k → inMask mask j ≡ false
 
--- A mask has k and no number above k.
-pub record Highest (mask k : ℕ) : Type 0 where
-  pub few : k < 64
-  pub has : inMask mask k ≡ true
-  pub none : (j : ℕ) → k < j → inMask mask j ≡ false
-
--- A mask without the numbers of another.
-unfoldable pub minus : ℕ → ℕ → ℕ
-minus mask other = maskOf (λ j. inMask mask j && not (inMask other j)) 64
-
 -- Item x is in the mask of item y.
 abbrev pub marked : List ℕ → ℕ → ℕ → Bool
 marked masks x y = inMask (getD masks y 0) x
 
--- The score that an array has at i.
-abbrev pub scoreAt : List ℤ → ℕ → ℤ
-scoreAt scores i = getD scores i (pos 0)
+-- The score of seed i from the array that holds it.
+abbrev pub scoreBy : List ℤ → ℕ → ℤ
+scoreBy scores i = getD scores i (pos 0)
 
 -- The items of a list of seeds, by the masks of each.
 abbrev pub itemsOf : Standing → List ℤ → Items
-itemsOf s scores = record { left = marked (s .lefts); under = marked (s .unders); worth = λ k. seedKey (scoreAt scores) (numberAt (s .numbers) k) }
+itemsOf s scores = record { left = marked (s .lefts); under = marked (s .unders); worth = λ k. seedKey (scoreBy scores) (numberAt (s .numbers) k) }
 
 -- Of the items in a mask none is better in the row at hand than one that it is left of.
 pub record Rising (xs lefts : List ℕ) (mask : ℕ) : Type 0 where
@@ -93,7 +83,7 @@ pub record Posed (s : Standing) (scores : List ℤ) : Type 0 where
   pub numbers-long : s .count ≤ length (s .numbers)
   pub before : (j k : ℕ) → k < s .count → T (marked (s .lefts) j k) → j < k
   pub laws : Laws (itemsOf s scores) (s .count)
-  pub limited : Limited 64 (scoreAt scores) (numberAt (s .numbers)) (itemsOf s scores .worth) (s .count)
+  pub limited : Limited 64 (scoreBy scores) (numberAt (s .numbers)) (itemsOf s scores .worth) (s .count)
 
 -- The scratch held xs and holds ys, with the keys of the first n items.
 pub record ItemsFilled (S : Items) (xs : List ℕ) (n : ℕ) (ys : List ℕ) : Type 0 where

@@ -6,7 +6,7 @@ ghost use lib.ListN.{length, set, replicate};
 ghost use Rattle.optimum.specs.Key.{empty, better, _⊕_, inMask};
 ghost use Rattle.optimum.specs.Table.{stored};
 ghost use Rattle.seed.specs.Tab.{tab};
-ghost use Rattle.best.specs.Scratch.{Lowest, Highest, minus, keyAt};
+ghost use Rattle.best.specs.Scratch.{Lowest, keyAt};
 
 // The total of a chain and the mask of its numbers.
 pub struct Stored {
@@ -78,29 +78,6 @@ pub fn without_lowest(mask: u64, k: usize) -> u64
     ensures { λ r. ⌜ r ≡ mask - 2 ^ k ⌝ }
 {
     mask & (mask - 1)
-}
-
-// The highest number that a mask has.
-pub fn highest(mask: u64) -> usize
-    requires { ⌜ mask ≢ 0 ⌝ }
-    ensures { λ r. ⌜ Highest mask r ⌝ }
-{
-    63 - u64::leading_zeros(mask) as usize
-}
-
-// The mask without the numbers of another.
-pub fn without(mask: u64, other: u64) -> u64
-    ensures { λ r. ⌜ r ≡ minus mask other ⌝ }
-{
-    mask ^ (mask & other)
-}
-
-// The mask of one number.
-pub fn bit(i: usize) -> u64
-    requires { ⌜ i < 64 ⌝ }
-    ensures { λ r. ⌜ r ≡ 2 ^ i ⌝ }
-{
-    1u64 << i
 }
 
 // The key at place k of the bank that begins at base.

@@ -1,9 +1,6 @@
 // The best chain of a table's seeds, on a lent scratch.
 mod keys;
-mod order;
 mod scratch;
-mod standing;
-mod stands;
 
 use answer::Answer;
 use answer::Ground;

@@ -8,7 +8,7 @@ use borrow.Author.Needs.{needs}
 use lib.ListN.{length, getD, length-set}
 use Rattle.optimum.specs.Key.{inMask}
 use Rattle.seed.proofs.Tabs.{tab-of}
-use Rattle.best.proofs.Filling.{set-below}
+use Rattle.standing.proofs.Filling.{set-below}
 use Rattle.best.proofs.keys.unpacked.Statement.{statement}
 use Rattle.best.proofs.keys.unpacked.Tie as tie
 
