@@ -12,13 +12,13 @@ use tree::Tree;
 ghost use mathlib.Core.Path.{_≡_};
 ghost use mathlib.Core.List.{[], _∷_};
 ghost use Prim.Native.Nat.{_+_, _*_, _≤_, _<_};
-ghost use lib.ListN.{length, getD};
+ghost use lib.ListN.{length};
 ghost use lib.Seq.{sets};
 ghost use Rattle.tree.specs.Reading.{leavesOf};
 ghost use Rattle.seed.specs.Pairs.{pairsOf, Held};
 ghost use Rattle.seed.specs.AreaList.{firstBelow, lastBelow, bytesOf};
 ghost use Rattle.seed.specs.AreaList as lists;
-ghost use Rattle.table.specs.Rows.{noRow};
+ghost use Rattle.table.specs.Rows.{rowIn};
 ghost use Rattle.table.specs.Table.{rowsOf, Kept};
 ghost use Rattle.area.specs.Gaps as gaps;
 ghost use Rattle.area.specs.Listed.{ListedRight};
@@ -231,7 +231,7 @@ fn areas_of<'a>(q: Tree, t: Tree, qs: &'a [u8], ts: &'a [u8], out: &mut [u8]) ->
 // Lists the open areas of the seed at a place of a table, present or not: none if there is no such seed.
 pub fn areas(q: Tree, t: Tree, table: Table, at: usize, out: &mut [u8]) -> Listed
     requires { ⌜ Kept q t table ⌝ }
-    ensures { λ r. ⌜ ListedRight (lists.areas (leavesOf q) (leavesOf t) (getD (rowsOf table) at noRow .pairs)) (now (out .entry)) r (now (out .exit)) ⌝ }
+    ensures { λ r. ⌜ ListedRight (lists.areas (leavesOf q) (leavesOf t) (rowIn (rowsOf table) at .pairs)) (now (out .entry)) r (now (out .exit)) ⌝ }
 {
     if table.seeds <= at {
         return Listed {

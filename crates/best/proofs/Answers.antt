@@ -14,7 +14,7 @@ use Rattle.tree.specs.declared.Tree.{Tree}
 use Rattle.tree.proofs.Trees.{tree-nested}
 use Rattle.seed.specs.Seed.{Seed}
 use Rattle.seed.specs.Tab.{tab}
-use Rattle.table.specs.Rows.{Row, inRange}
+use Rattle.table.specs.Rows.{Row, inRange, rowIn}
 use Rattle.table.specs.Table.{rowAt, rowsOf, Kept}
 use Rattle.table.specs.declared.Table.{Table}
 use Rattle.table.proofs.Tables.{rows-length, row-there}
@@ -22,7 +22,7 @@ use Rattle.optimum.specs.Key.{inMask}
 use Rattle.optimum.specs.Table.{stored}
 use Rattle.optimum.specs.Table as optimum
 use Rattle.optimum.proofs.Booleans.{and-r}
-use Rattle.standing.specs.Standing.{pairsIn, scoreIn, Stood}
+use Rattle.standing.specs.Standing.{Stood}
 use Rattle.best.specs.Best.{keyOf, scratchNeeded, refused, bestOf, scratchAfter, Answered}
 use Rattle.best.specs.Scratch.{scoreBy, itemsOf, Posed}
 use Rattle.standing.specs.declared.Standing.{Standing}
@@ -46,17 +46,17 @@ module _ (q t : Tree) (table : Table) where
     few : length (rowsOf table) ≤ 64
     few = omega (arith, rows-length table, h .laid .few)
 
-    seeds : (i : ℕ) → i < length (rowsOf table) → Seed (leavesOf q) (leavesOf t) (pairsIn (rowsOf table) i)
+    seeds : (i : ℕ) → i < length (rowsOf table) → Seed (leavesOf q) (leavesOf t) (rowIn (rowsOf table) i .pairs)
     seeds i b = h .each i b .seed
 
-    score-row : (i : ℕ) → i < length (rowsOf table) → scoreBy (table .scores) i ≡ scoreIn (rowsOf table) i
+    score-row : (i : ℕ) → i < length (rowsOf table) → scoreBy (table .scores) i ≡ rowIn (rowsOf table) i .score
     unfolding rowAt
     score-row i b = sym (ap (λ (r : Row). r .score) (row-there table i (omega (arith, rows-length table))))
 
     most : (i : ℕ) → i < length (rowsOf table) → scoreBy (table .scores) i ≤ℤ pos 1000000
     unfolding inRange
     most i b =
-        let z = scoreIn (rowsOf table) i in
+        let z = rowIn (rowsOf table) i .score in
         rw (score-row i b) (leZ-yes (and-r (leZ (negsuc 999999) z) (leZ z (pos 1000000)) (rw (h .each i b .ranged) tt)))
 
     pub table-posed : Posed s (table .scores)

@@ -25,11 +25,10 @@ use Rattle.optimum.proofs.Booleans.{T-eq, T-neq}
 use Rattle.optimum.proofs.BestChain.{Listed, by-number, best-is-best, best-total}
 use Rattle.seed.specs.Tab.{tab}
 use Rattle.seed.proofs.Tabs.{length-tab, getD-tab}
-use Rattle.table.specs.Rows.{Row}
+use Rattle.table.specs.Rows.{Row, rowIn}
 use Rattle.table.specs.Table.{rowsOf, Kept}
 use Rattle.table.specs.declared.Table.{Table}
 use Rattle.table.proofs.Tables.{rows-length}
-use Rattle.standing.specs.Standing.{pairsIn, scoreIn, presentIn}
 use Rattle.best.specs.Best.{keyOf, accepted, scratchNeeded, bestOf, seedsOf, NamesBest, Answered}
 use Rattle.best.specs.declared.Best.{Best}
 use Rattle.masks.proofs.Bits.{told-yes}
@@ -61,32 +60,32 @@ best-natural S f h =
 
 -- ---- the theorem
 
-module _ {Q T : List ℕ} (tree-q : Nested Q) (tree-t : Nested T) (rows : List Row) (seeds : (i : ℕ) → i < length rows → Seed Q T (pairsIn rows i)) where
+module _ {Q T : List ℕ} (tree-q : Nested Q) (tree-t : Nested T) (rows : List Row) (seeds : (i : ℕ) → i < length rows → Seed Q T (rowIn rows i .pairs)) where
   abbrev S : Seeds
   S = seedsOf Q T rows
 
   -- Two seeds are chainable by the test.
   abbrev test : ℕ → ℕ → Bool
-  test i j = chainable Q T (pairsIn rows i) (pairsIn rows j)
+  test i j = chainable Q T (rowIn rows i .pairs) (rowIn rows j .pairs)
 
   -- The seeds by their numbers.
-  pub numbered : Listed S (λ i. i) test (seedKey (scoreIn rows)) (presentIn rows) (length rows)
+  pub numbered : Listed S (λ i. i) test (seedKey (λ i. rowIn rows i .score)) (λ i. rowIn rows i .present) (length rows)
   numbered =
       by-number S test
-      (λ i j. chain-sym (pairsIn rows i) (pairsIn rows j))
-      (λ i j l b t. tells-chainable tree-q tree-t (pairsIn rows i) (pairsIn rows j) (seeds i (omega arith)) (seeds j b) .0 (T-eq t))
-      (λ i j l b c. told-yes refl (tells-chainable tree-q tree-t (pairsIn rows i) (pairsIn rows j) (seeds i (omega arith)) (seeds j b) .1 c))
+      (λ i j. chain-sym (rowIn rows i .pairs) (rowIn rows j .pairs))
+      (λ i j l b t. tells-chainable tree-q tree-t (rowIn rows i .pairs) (rowIn rows j .pairs) (seeds i (omega arith)) (seeds j b) .0 (T-eq t))
+      (λ i j l b c. told-yes refl (tells-chainable tree-q tree-t (rowIn rows i .pairs) (rowIn rows j .pairs) (seeds i (omega arith)) (seeds j b) .1 c))
 
   abbrev key : Key
   key = keyOf Q T rows
 
   best-set : IsBest S (inMask (key .mask))
   unfolding keyOf
-  best-set = best-is-best S (λ i. i) test (seedKey (scoreIn rows)) (presentIn rows) (length rows) numbered
+  best-set = best-is-best S (λ i. i) test (seedKey (λ i. rowIn rows i .score)) (λ i. rowIn rows i .present) (length rows) numbered
 
   set-total : key .total ≡ total S (inMask (key .mask))
   unfolding keyOf
-  set-total = best-total S (λ i. i) test (seedKey (scoreIn rows)) (presentIn rows) (length rows) numbered
+  set-total = best-total S (λ i. i) test (seedKey (λ i. rowIn rows i .score)) (λ i. rowIn rows i .present) (length rows) numbered
 
   -- The best chain: the answer names the chain that is best of all by document 01, with exactly its total.
   pub best-chain : length rows ≤ 64 → NamesBest S (accepted key)

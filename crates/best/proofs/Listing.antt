@@ -18,13 +18,13 @@ use Rattle.seed.specs.AreaList.{left, under}
 use Rattle.seed.specs.declared.Pair.{Pair}
 use Rattle.seed.proofs.Chain.{chain-sym}
 use Rattle.seed.proofs.Laws as seed
-use Rattle.table.specs.Rows.{Row}
+use Rattle.table.specs.Rows.{Row, rowIn}
 use Rattle.optimum.specs.Chain.{Seeds}
 use Rattle.optimum.specs.Key.{inMask, maskOf}
 use Rattle.optimum.specs.Table.{Items, Laws, Numbered, chainable, bestOf}
 use Rattle.optimum.proofs.Booleans.{T-eq, and-i, or-l, or-r, or-e}
 use Rattle.optimum.proofs.BestChain.{Listed, best-agrees}
-use Rattle.standing.specs.Standing.{pairsIn, scoreIn, rankIn, numberAt, seedAt, Stood}
+use Rattle.standing.specs.Standing.{rankIn, numberAt, seedAt, Stood}
 use Rattle.best.specs.Best.{keyOf, seedsOf}
 use Rattle.best.specs.Scratch.{marked, scoreBy, itemsOf, Posed}
 use Rattle.standing.specs.declared.Standing.{Standing}
@@ -35,7 +35,7 @@ use Rattle.best.proofs.BestChain.{numbered}
 mask-told : (f : ℕ → Bool) (x y : ℕ) {m : ℕ} → m ≡ maskOf f y → x < y → f x ≡ true → T (inMask m x)
 mask-told f x y e b h = rw (e, mask-has f y x) (and-i (ltb x y) (f x) (lt→ltb x y b) (told-yes refl h))
 
-module _ {Q T′ : List ℕ} (tree-q : Nested Q) (tree-t : Nested T′) (rows : List Row) (few : length rows ≤ 64) (seeds : (i : ℕ) → i < length rows → Seed Q T′ (pairsIn rows i)) (s : Standing) (o : Stood Q T′ rows s) where
+module _ {Q T′ : List ℕ} (tree-q : Nested Q) (tree-t : Nested T′) (rows : List Row) (few : length rows ≤ 64) (seeds : (i : ℕ) → i < length rows → Seed Q T′ (rowIn rows i .pairs)) (s : Standing) (o : Stood Q T′ rows s) where
   -- The seed at place k of the list.
   abbrev at : ℕ → List Pair
   at k = seedAt rows (s .numbers) k
@@ -114,17 +114,17 @@ module _ {Q T′ : List ℕ} (tree-q : Nested Q) (tree-t : Nested T′) (rows : 
           };
         }
 
-    module _ (same : (i : ℕ) → i < length rows → scoreBy scores i ≡ scoreIn rows i) where
+    module _ (same : (i : ℕ) → i < length rows → scoreBy scores i ≡ rowIn rows i .score) where
       abbrev S : Seeds
       S = seedsOf Q T′ rows
 
       listed : Listed S (numberAt (s .numbers)) (chainable items) (items .worth) (λ x. true) (s .count)
       listed =
           record {
-            numbered = places (length rows) (omega arith) (scoreIn rows) same;
+            numbered = places (length rows) (omega arith) (λ i. rowIn rows i .score) same;
             present = λ k b t. rw (o .present k b) tt;
             listed = λ i b t. let p = o .listed i b (T-eq t) in record { at = p .at; below = p .below; inside = tt; numbered = p .holds };
-            symmetric = λ i j. chain-sym (pairsIn rows i) (pairsIn rows j);
+            symmetric = λ i j. chain-sym (rowIn rows i .pairs) (rowIn rows j .pairs);
             chainable = λ j k a b.
                 or-e (marked (s .lefts) j k) (marked (s .unders) j k)
                 (λ t. laws .left j k (omega arith) b (left-says j k b t .1))

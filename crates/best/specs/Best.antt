@@ -14,18 +14,17 @@ use Rattle.tree.specs.declared.Tree.{Tree}
 use Rattle.seed.specs.Chain.{Chainable}
 use Rattle.seed.specs.AreaList.{chainable}
 use Rattle.seed.specs.Tab.{tab}
-use Rattle.table.specs.Rows.{Row}
+use Rattle.table.specs.Rows.{Row, rowIn}
 use Rattle.table.specs.Table.{rowsOf}
 use Rattle.table.specs.declared.Table.{Table}
 use Rattle.optimum.specs.Chain.{Seeds, total, IsBest}
 use Rattle.optimum.specs.Key.{Key, seedKey, inMask}
 use Rattle.optimum.specs.Best as optimum
-use Rattle.standing.specs.Standing.{pairsIn, scoreIn, presentIn}
 use Rattle.best.specs.declared.Best.{Best}
 
 -- The key of the best chain of the present seeds of a table, by trying all chains.
 unfoldable pub keyOf : List ℕ → List ℕ → List Row → Key
-keyOf Q T rows = optimum.best (λ i j. chainable Q T (pairsIn rows i) (pairsIn rows j)) (seedKey (scoreIn rows)) (presentIn rows) (length rows)
+keyOf Q T rows = optimum.best (λ i j. chainable Q T (rowIn rows i .pairs) (rowIn rows j .pairs)) (seedKey (λ i. rowIn rows i .score)) (λ i. rowIn rows i .present) (length rows)
 
 -- What is answered of a key: its total, and for each seed number whether the chain has it.
 abbrev pub accepted : Key → Best
@@ -48,7 +47,7 @@ scratchAfter xs = cond (ltb (length xs) scratchNeeded) xs (replicate (length xs)
 
 -- The seeds to choose from, of which two are chainable by document 01's own words.
 abbrev pub seedsOf : List ℕ → List ℕ → List Row → Seeds
-seedsOf Q T rows = record { count = length rows; present = presentIn rows; score = scoreIn rows; Chainable = λ i j. Chainable Q T (pairsIn rows i) (pairsIn rows j) }
+seedsOf Q T rows = record { count = length rows; present = λ i. rowIn rows i .present; score = λ i. rowIn rows i .score; Chainable = λ i j. Chainable Q T (rowIn rows i .pairs) (rowIn rows j .pairs) }
 
 -- The seed numbers that an answer names.
 abbrev pub named : Best → ℕ → Bool

@@ -17,13 +17,13 @@ use Rattle.deck.specs.Deck.{chainsOf}
 use Rattle.deck.proofs.Lists.{tab-next, map-append, flatten-append}
 
 -- How many pairs some rows have.
-abbrev pub pairsIn : List Row → ℕ
-pairsIn rows = length (flatten (chainsOf rows))
+abbrev pub pairTotal : List Row → ℕ
+pairTotal rows = length (flatten (chainsOf rows))
 
-pairs-append : (xs ys : List Row) → pairsIn (xs ++ ys) ≡ pairsIn xs + pairsIn ys
+pairs-append : (xs ys : List Row) → pairTotal (xs ++ ys) ≡ pairTotal xs + pairTotal ys
 pairs-append xs ys = ap length (ap flatten (map-append pairsOfRow xs ys) ∙ flatten-append (chainsOf xs) (chainsOf ys)) ∙ length-append (flatten (chainsOf xs)) (flatten (chainsOf ys))
 
-pairs-one : (xs : List Row) (r : Row) → pairsIn (xs ++ r ∷ []) ≡ pairsIn xs + length (r .pairs)
+pairs-one : (xs : List Row) (r : Row) → pairTotal (xs ++ r ∷ []) ≡ pairTotal xs + length (r .pairs)
 unfolding flatten
 pairs-one xs r = pairs-append xs (r ∷ []) ∙ rw append-nil
 
@@ -37,7 +37,7 @@ present-append (x ∷ xs) ys = go (x .present) (present-append xs ys)
     go true e = ap (λ (l : List Row). x ∷ l) e
     go false e = e
 
-present-few : (rows : List Row) → (length (presentRows rows) ≤ length rows) × (pairsIn (presentRows rows) ≤ pairCount rows)
+present-few : (rows : List Row) → (length (presentRows rows) ≤ length rows) × (pairTotal (presentRows rows) ≤ pairCount rows)
 unfolding presentRows pairCount flatten
 present-few [] = (omega arith, omega arith)
 present-few (r ∷ rows) = go (r .present) (present-few rows)
@@ -45,7 +45,7 @@ present-few (r ∷ rows) = go (r .present) (present-few rows)
     rest : List Row
     rest = presentRows rows
 
-    go : (b : Bool) → (length rest ≤ length rows) × (pairsIn rest ≤ pairCount rows) → (length (cond b (r ∷ rest) rest) ≤ suc (length rows)) × (pairsIn (cond b (r ∷ rest) rest) ≤ length (r .pairs) + pairCount rows)
+    go : (b : Bool) → (length rest ≤ length rows) × (pairTotal rest ≤ pairCount rows) → (length (cond b (r ∷ rest) rest) ≤ suc (length rows)) × (pairTotal (cond b (r ∷ rest) rest) ≤ length (r .pairs) + pairCount rows)
     go true e = (omega arith, omega (arith, length-append (r .pairs) (flatten (chainsOf rest))))
     go false e = (omega arith, omega arith)
 
@@ -75,11 +75,11 @@ module _ (t : Table) where
       (λ l. ([], let e : suc n ≡ i = omega arith in ap (presentBelow t) e ∙ sym (append-nil (presentBelow t i))))
       (lt-or-le i (suc n))
 
-  pub below-few : (i : ℕ) → i ≤ t .seeds → (length (presentBelow t i) ≤ length (presentRows (rowsOf t))) × (pairsIn (presentBelow t i) ≤ pairsIn (presentRows (rowsOf t)))
+  pub below-few : (i : ℕ) → i ≤ t .seeds → (length (presentBelow t i) ≤ length (presentRows (rowsOf t))) × (pairTotal (presentBelow t i) ≤ pairTotal (presentRows (rowsOf t)))
   unfolding rowsOf
   below-few i h =
       let w = below-rest i (t .seeds) h in
-      (omega (arith, ap length (w .1), length-append (presentBelow t i) (w .0)), omega (arith, ap pairsIn (w .1), pairs-append (presentBelow t i) (w .0)))
+      (omega (arith, ap length (w .1), length-append (presentBelow t i) (w .0)), omega (arith, ap pairTotal (w .1), pairs-append (presentBelow t i) (w .0)))
 
   pub count-more : (i : ℕ) → getD (t .present) i false ≡ true → length (presentBelow t (i + 1)) ≡ length (presentBelow t i) + 1
   count-more i e = ap length (below-more i e) ∙ length-append (presentBelow t i) (rowAt t i ∷ [])
@@ -88,9 +88,9 @@ module _ (t : Table) where
     pub seeds-few : length (presentRows (rowsOf t)) ≤ 64
     seeds-few = omega (arith, present-few (rowsOf t) .0, rows-length t, h .few)
 
-    pub pairs-few : pairsIn (presentRows (rowsOf t)) ≤ 1024
+    pub pairs-few : pairTotal (presentRows (rowsOf t)) ≤ 1024
     pairs-few = omega (arith, present-few (rowsOf t) .1, rows-count t h, h .fit)
 
-    pub total-more : (i : ℕ) → i < t .seeds → getD (t .present) i false ≡ true → pairsIn (presentBelow t (i + 1)) ≡ pairsIn (presentBelow t i) + length (nodesOf (t .qs) (t .bounds) i)
+    pub total-more : (i : ℕ) → i < t .seeds → getD (t .present) i false ≡ true → pairTotal (presentBelow t (i + 1)) ≡ pairTotal (presentBelow t i) + length (nodesOf (t .qs) (t .bounds) i)
     unfolding rowAt
-    total-more i l e = ap pairsIn (below-more i e) ∙ pairs-one (presentBelow t i) (rowAt t i) ∙ ap (λ (n : ℕ). pairsIn (presentBelow t i) + n) (pairs-length t h i l)
+    total-more i l e = ap pairTotal (below-more i e) ∙ pairs-one (presentBelow t i) (rowAt t i) ∙ ap (λ (n : ℕ). pairTotal (presentBelow t i) + n) (pairs-length t h i l)

@@ -19,7 +19,7 @@ use Rattle.plain.specs.Plain.{seedBytes, plainChain, plainPairs}
 use Rattle.plain.specs.Writing.{sizeOf, seedPart, pairPart}
 use Rattle.plain.specs.declared.size.Size.{Size}
 use Rattle.plain.proofs.Writing.{put-after, pair-part-append, pair-part-length}
-use Rattle.plain.proofs.Present.{pairsIn, presentBelow, below-more, below-same, below-few, seeds-few, pairs-few, count-more, total-more}
+use Rattle.plain.proofs.Present.{pairTotal, presentBelow, below-more, below-same, below-few, seeds-few, pairs-few, count-more, total-more}
 use Rattle.plain.proofs.PlainForm.{seed-part-more, seed-part-length, pairs-more, pairs-count}
 
 -- The size of the present rows passed.
@@ -37,21 +37,21 @@ module _ (t : Table) (h : Laid t) {size : Size} {i : ℕ} (is : size ≡ sizeOf 
   pub size-more : getD (t .present) i false ≡ true → {m : ℕ} → m ≡ length (nodesOf (t .qs) (t .bounds) i) → record { seeds = size .seeds + 1; pairs = size .pairs + m } ≡ sizeOf (presentBelow t (i + 1))
   size-more e {m} c =
       ap (λ (z : Size). record { seeds = z .seeds + 1; pairs = z .pairs + m }) is
-      ∙ ap₂ (λ (x y : ℕ). record { seeds = x; pairs = y }) (sym (count-more t i e)) (ap (λ (n : ℕ). pairsIn (presentBelow t i) + n) c ∙ sym (total-more t h i l e))
+      ∙ ap₂ (λ (x y : ℕ). record { seeds = x; pairs = y }) (sym (count-more t i e)) (ap (λ (n : ℕ). pairTotal (presentBelow t i) + n) c ∙ sym (total-more t h i l e))
 
 -- What holds of the output while the seed records are written, and while the pair records are.
 pub record Seeding (t : Table) (before out : List ℕ) (at k i : ℕ) : Type 0 where
   pub few : i ≤ t .seeds
   pub as-long : length out ≡ length before
   pub place : at ≡ 4 + 6 * length (presentBelow t i)
-  pub number : k ≡ 1 + pairsIn (presentBelow t i)
+  pub number : k ≡ 1 + pairTotal (presentBelow t i)
   pub wrote : out ≡ sets before 4 (seedPart (presentBelow t i))
 
 pub record Pairing (t : Table) (start : ℕ) (before out : List ℕ) (at k i : ℕ) : Type 0 where
   pub few : i ≤ t .seeds
   pub as-long : length out ≡ length before
-  pub place : at ≡ start + 4 * pairsIn (presentBelow t i)
-  pub number : k ≡ 1 + pairsIn (presentBelow t i)
+  pub place : at ≡ start + 4 * pairTotal (presentBelow t i)
+  pub number : k ≡ 1 + pairTotal (presentBelow t i)
   pub wrote : out ≡ sets before start (pairPart (plainPairs 1 (chainsOf (presentBelow t i))))
 
 -- All rows are passed.
@@ -121,7 +121,7 @@ module _ (t : Table) (start : ℕ) (h : Laid t) {before out : List ℕ} {at k i 
     pub pairing-few : k + length (nodesOf (t .qs) (t .bounds) i) ≤ 1025
     pairing-few = omega (arith, w .number, total-more t h i l e, below-few t (i + 1) (omega arith), pairs-few t h)
 
-    pub pairing-room : start + 4 * pairsIn (presentRows (rowsOf t)) ≤ length before → at + 4 * length (nodesOf (t .qs) (t .bounds) i) ≤ length out
+    pub pairing-room : start + 4 * pairTotal (presentRows (rowsOf t)) ≤ length before → at + 4 * length (nodesOf (t .qs) (t .bounds) i) ≤ length out
     pairing-room r = omega (arith, w .place, w .as-long, total-more t h i l e, below-few t (i + 1) (omega arith))
 
     pub pairing-more : (next : List ℕ) (m : ℕ) (qs ts : List ℕ) → qs ≡ nodesOf (t .qs) (t .bounds) i → ts ≡ nodesOf (t .ts) (t .bounds) i → m ≡ length qs → next ≡ sets out at (pairPart (plainChain k (pairsOf qs ts))) → Pairing t start before next (at + 4 * m) (k + m) (i + 1)

@@ -4,6 +4,5 @@ pub mod Seed
 pub mod Chain
 pub mod Area
 pub mod Pairs
-pub mod Store
 pub mod Tests
 pub mod AreaList

@@ -12,11 +12,11 @@ use Rattle.seed.specs.AreaList.{left, under}
 use Rattle.seed.specs.Seed.{Seed, lastPair}
 use Rattle.seed.specs.declared.Pair.{Pair}
 use Rattle.seed.proofs.Laws.{test-laws}
-use Rattle.table.specs.Rows.{Row}
+use Rattle.table.specs.Rows.{Row, rowIn}
 use Rattle.table.specs.Table.{nodesOf, pairsAt, rowAt, rowsOf, Kept}
 use Rattle.table.specs.declared.Table.{Table}
 use Rattle.table.proofs.Tables.{rows-length, row-there, q-length, t-length}
-use Rattle.standing.specs.Standing.{pairsIn, presentIn, rankIn, numberAt, seedAt, Stood}
+use Rattle.standing.specs.Standing.{rankIn, numberAt, seedAt, Stood}
 use Rattle.standing.specs.Order.{lastOf, rankBy, Ordered}
 use Rattle.standing.specs.Stands.{masksOf, pairsBy, seedBy, Lawful, Related}
 use Rattle.standing.specs.declared.order.Order.{Order}
@@ -29,15 +29,15 @@ pub tree-fits : (t : Tree) → IsTree t → t .n ≤ length (t .left)
 tree-fits t h = omega (arith, tree-length t h, length-take (t .n) (t .left))
 
 module _ (q t : Tree) (table : Table) (h : Kept q t table) where
-  pairs-row : (i : ℕ) → i < table .seeds → pairsBy (table .qs) (table .ts) (table .bounds) i ≡ pairsIn (rowsOf table) i
+  pairs-row : (i : ℕ) → i < table .seeds → pairsBy (table .qs) (table .ts) (table .bounds) i ≡ rowIn (rowsOf table) i .pairs
   unfolding pairsBy rowAt pairsAt
   pairs-row i b = sym (ap (λ (r : Row). r .pairs) (row-there table i b))
 
-  present-row : (i : ℕ) → i < table .seeds → getD (table .present) i false ≡ presentIn (rowsOf table) i
+  present-row : (i : ℕ) → i < table .seeds → getD (table .present) i false ≡ rowIn (rowsOf table) i .present
   unfolding rowAt
   present-row i b = sym (ap (λ (r : Row). r .present) (row-there table i b))
 
-  last-row : (i : ℕ) → i < table .seeds → lastOf (table .qs) (table .bounds) i ≡ lastPair (pairsIn (rowsOf table) i) .q
+  last-row : (i : ℕ) → i < table .seeds → lastOf (table .qs) (table .bounds) i ≡ lastPair (rowIn (rowsOf table) i .pairs) .q
   unfolding lastOf pairsBy
   last-row i b =
       last-q (nodesOf (table .qs) (table .bounds) i) (nodesOf (table .ts) (table .bounds) i) (q-length table (h .laid) i b ∙ sym (t-length table (h .laid) i b))

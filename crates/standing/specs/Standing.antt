@@ -9,23 +9,13 @@ use lib.ListN.{length, getD}
 use Rattle.seed.specs.AreaList as seed
 use Rattle.seed.specs.Seed.{lastPair}
 use Rattle.seed.specs.declared.Pair.{Pair}
-use Rattle.table.specs.Rows.{Row, noRow}
+use Rattle.table.specs.Rows.{Row, rowIn}
 use Rattle.optimum.specs.Key.{maskOf}
 use Rattle.standing.specs.declared.Standing.{Standing}
 
--- What the rows say of seed i: its pairs, its score, and whether it is present.
-abbrev pub pairsIn : List Row → ℕ → List Pair
-pairsIn rows i = getD rows i noRow .pairs
-
-abbrev pub scoreIn : List Row → ℕ → ℤ
-scoreIn rows i = getD rows i noRow .score
-
-abbrev pub presentIn : List Row → ℕ → Bool
-presentIn rows i = getD rows i noRow .present
-
 -- The rank of seed i: by the q of its last pair, then by its number, which is below 64.
 abbrev pub rankIn : List Row → ℕ → ℕ
-rankIn rows i = lastPair (pairsIn rows i) .q * 64 + i
+rankIn rows i = lastPair (rowIn rows i .pairs) .q * 64 + i
 
 -- The number that a list has at k.
 abbrev pub numberAt : List ℕ → ℕ → ℕ
@@ -39,7 +29,7 @@ pub record Place (numbers : List ℕ) (m i : ℕ) : Type 0 where
 
 -- The pairs of the seed whose number a list has at k.
 abbrev pub seedAt : List Row → List ℕ → ℕ → List Pair
-seedAt rows numbers k = pairsIn rows (numberAt numbers k)
+seedAt rows numbers k = rowIn rows (numberAt numbers k) .pairs
 
 -- The present seeds of a table by rising rank, and for each the masks of those before it that stand left of it and under it.
 pub record Stood (Q T : List ℕ) (rows : List Row) (s : Standing) : Type 0 where
@@ -48,8 +38,8 @@ pub record Stood (Q T : List ℕ) (rows : List Row) (s : Standing) : Type 0 wher
   pub room-lefts : length (s .lefts) ≡ 64
   pub room-unders : length (s .unders) ≡ 64
   pub within : (k : ℕ) → k < s .count → numberAt (s .numbers) k < length rows
-  pub present : (k : ℕ) → k < s .count → presentIn rows (numberAt (s .numbers) k) ≡ true
+  pub present : (k : ℕ) → k < s .count → rowIn rows (numberAt (s .numbers) k) .present ≡ true
   pub rising : (j k : ℕ) → j < k → k < s .count → rankIn rows (numberAt (s .numbers) j) < rankIn rows (numberAt (s .numbers) k)
-  pub listed : (i : ℕ) → i < length rows → presentIn rows i ≡ true → Place (s .numbers) (s .count) i
+  pub listed : (i : ℕ) → i < length rows → rowIn rows i .present ≡ true → Place (s .numbers) (s .count) i
   pub left : (y : ℕ) → y < s .count → getD (s .lefts) y 0 ≡ maskOf (λ x. seed.left Q T (seedAt rows (s .numbers) x) (seedAt rows (s .numbers) y)) y
   pub under : (y : ℕ) → y < s .count → getD (s .unders) y 0 ≡ maskOf (λ x. seed.under Q T (seedAt rows (s .numbers) x) (seedAt rows (s .numbers) y)) y

@@ -25,12 +25,16 @@ newRow ps z = record { pairs = ps; score = z; present = true }
 unfoldable pub givenOut : ℕ → ℕ → Bool
 givenOut seeds k = leb 1 k && leb k seeds
 
--- The row of number k, and the rows with another one there. Numbers count from 1, and places of a list from 0.
+-- The row at a place of the list, counted from 0, and what stands for one where there is none.
 abbrev pub noRow : Row
 noRow = record { pairs = []; score = pos 0; present = false }
 
+abbrev pub rowIn : List Row → ℕ → Row
+rowIn rows i = getD rows i noRow
+
+-- The row of number k, which counts from 1, and the rows with another one there.
 unfoldable pub rowOf : List Row → ℕ → Row
-rowOf rows k = getD rows (k - 1) noRow
+rowOf rows k = rowIn rows (k - 1)
 
 unfoldable pub withRow : List Row → ℕ → Row → List Row
 withRow rows k row = set rows (k - 1) row
@@ -70,4 +74,4 @@ pub record Holds (Q T : List ℕ) (r : Row) : Type 0 where
 
 -- Each of the rows does.
 abbrev pub AllHold : List ℕ → List ℕ → List Row → Type 0
-AllHold Q T rows = (i : ℕ) → i < length rows → Holds Q T (getD rows i noRow)
+AllHold Q T rows = (i : ℕ) → i < length rows → Holds Q T (rowIn rows i)

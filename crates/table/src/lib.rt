@@ -6,10 +6,10 @@ use parts::lesser;
 use seed::Pair;
 use seed::last_pair;
 ghost use mathlib.Core.Path.{_≡_};
-ghost use lib.ListN.{length, getD, set};
+ghost use lib.ListN.{length, set};
 ghost use Rattle.seed.specs.Seed.{lastPair};
 ghost use Rattle.seed.specs.Pairs.{pairsOf};
-ghost use Rattle.table.specs.Rows.{noRow, withScore, withPresence, summaryOf, inRange};
+ghost use Rattle.table.specs.Rows.{rowIn, withScore, withPresence, summaryOf, inRange};
 ghost use Rattle.table.specs.Table.{nodesOf, rowsOf, noSeeds, Laid, HasRows};
 
 // Seed i, counted from 0, has the pairs from bounds[i] up to bounds[i + 1], and bounds[0] is 0. What the arrays hold beyond the seeds and
@@ -72,7 +72,7 @@ pub fn nodes_of<'a>(nodes: &'a [u8], bounds: &'a [u16], i: usize) -> &'a [u8]
 // The table with another score for the seed at a place, present or not.
 pub fn rescored(table: Table, at: usize, score: i32) -> Table
     requires { ⌜ Laid table ⌝ }
-    ensures { λ r. ⌜ HasRows (set (rowsOf table) at (withScore (getD (rowsOf table) at noRow) score)) r ⌝ }
+    ensures { λ r. ⌜ HasRows (set (rowsOf table) at (withScore (rowIn (rowsOf table) at) score)) r ⌝ }
 {
     let mut next = table;
     if at < table.seeds {
@@ -84,7 +84,7 @@ pub fn rescored(table: Table, at: usize, score: i32) -> Table
 // The table with the seed at a place present, or withdrawn.
 pub fn moved(table: Table, at: usize, to: bool) -> Table
     requires { ⌜ Laid table ⌝ }
-    ensures { λ r. ⌜ HasRows (set (rowsOf table) at (withPresence (getD (rowsOf table) at noRow) to)) r ⌝ }
+    ensures { λ r. ⌜ HasRows (set (rowsOf table) at (withPresence (rowIn (rowsOf table) at) to)) r ⌝ }
 {
     let mut next = table;
     if at < table.seeds {
@@ -110,7 +110,7 @@ fn last_at<'a>(qs: &'a [u8], ts: &'a [u8], bounds: &'a [u16], i: usize) -> Pair
 // What the row of the seed at a place says; that of no row, if there is no such seed.
 pub fn summary_at(table: Table, at: usize) -> Summary
     requires { ⌜ Laid table ⌝ }
-    ensures { λ r. ⌜ r ≡ summaryOf (getD (rowsOf table) at noRow) ⌝ }
+    ensures { λ r. ⌜ r ≡ summaryOf (rowIn (rowsOf table) at) ⌝ }
 {
     if table.seeds <= at {
         return Summary {
