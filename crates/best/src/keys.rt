@@ -80,6 +80,14 @@ pub fn without_lowest(mask: u64, k: usize) -> u64
     mask & (mask - 1)
 }
 
+// The mask of one number.
+pub fn bit(i: usize) -> u64
+    requires { ⌜ i < 64 ⌝ }
+    ensures { λ r. ⌜ r ≡ 2 ^ i ⌝ }
+{
+    1u64 << i
+}
+
 // The key at place k of the bank that begins at base.
 pub fn key_at(scratch: &[u64], base: usize, k: usize) -> Stored
     requires { ⌜ k < 64 ⌝ ∗ ⌜ base + 128 ≤ length (now scratch) ⌝ }

@@ -1,13 +1,13 @@
 // The table on the scratch by which the best chain is found: for each item the best chain under it, and a row of the items left of one another.
 use super::keys::Stored;
 use super::keys::better_of;
+use super::keys::bit;
 use super::keys::clipped;
 use super::keys::joined;
 use super::keys::key_at;
 use super::keys::lowest;
 use super::keys::put;
 use super::keys::without_lowest;
-use masks::bit;
 use masks::highest;
 use masks::without;
 use standing::Standing;

@@ -3,7 +3,7 @@ use mathlib.Core.Path.{_≡_, refl, sym, ap, _∙_}
 use mathlib.Core.Bool.{Bool, true, false, not, cond, _&&_, _||_}
 use mathlib.Core.Logic.{_⊎_, inl, inr}
 use Prim.Native.Nat.{ℕ, zero, suc, _+_, _-_, _/_, _%_, _^_, _≤_, _<_}
-use native.Mathlib.Nat.{mod-eq-of-lt, pow-succ'}
+use native.Mathlib.Nat.{pow-succ'}
 use native.Mathlib.Omega.{arith}
 use borrow.Author.Tests.{eq-eqb, ne-eqb, eqb-true, lt-ltb, le-ltb}
 use lib.Bits.{bitAnd, bitOr, bitXor, and-shr, and-mod, and-lt, or-shr, or-mod, xor-shr, xor-mod, xor-lt}
@@ -86,9 +86,6 @@ mask-past f k (suc n) h t =
     ]
 
 -- The mask of one number.
-pub bit-is : {i r : ℕ} → i < 64 → r ≡ 2 ^ (i % 64) → r ≡ 2 ^ i
-bit-is {i = i} few e = e ∙ ap (λ (n : ℕ). 2 ^ n) (mod-eq-of-lt few)
-
 one : (k : ℕ) → maskOf (λ j. eqb j k) (suc k) ≡ 2 ^ k
 unfolding maskOf
 one k = rw (eq-eqb k k refl, mask-past (λ j. eqb j k) 0 k (omega arith) (λ j a b. ne-eqb j k (λ e. omega arith))) (omega arith)

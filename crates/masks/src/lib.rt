@@ -1,14 +1,6 @@
 // Masks: sets of the numbers 0 to 63, as the bits of a u64.
 ghost use mathlib.Core.Path.{_≡_};
-ghost use Prim.Native.Nat.{_%_, _^_};
 ghost use Rattle.masks.specs.Masks.{Highest, minus};
-
-// The mask of one number, which is taken modulo 64.
-pub fn bit(i: usize) -> u64
-    ensures { λ r. ⌜ r ≡ 2 ^ (i % 64) ⌝ }
-{
-    1u64 << (i % 64)
-}
 
 // The highest number that a mask has, and 0 if it has none.
 pub fn highest(mask: u64) -> usize

@@ -1,6 +1,5 @@
 // How the seeds of a list stand to one another, by masks.
 use super::order::Order;
-use masks::bit;
 use masks::highest;
 use masks::without;
 use seed::Pair;
@@ -10,7 +9,7 @@ use seed::stands::fits;
 use table::nodes_of;
 ghost use mathlib.Core.Path.{_≡_};
 ghost use mathlib.Core.List.{[], _∷_};
-ghost use Prim.Native.Nat.{_≤_, _<_};
+ghost use Prim.Native.Nat.{_^_, _≤_, _<_};
 ghost use lib.ListN.{getD};
 ghost use Rattle.seed.specs.Pairs.{pairOf, pairsOf};
 ghost use Rattle.seed.specs.Seed.{lastPair};
@@ -49,6 +48,14 @@ fn stands_to(lq: &[u8], lt: &[u8], uq: &[u8], ut: &[u8], u: Pair, s: Pair) -> St
         left: false,
         under: fits(lq, lt, uq, ut, s.q as usize, s.t as usize),
     }
+}
+
+// The mask of one number.
+fn bit(i: usize) -> u64
+    requires { ⌜ i < 64 ⌝ }
+    ensures { λ r. ⌜ r ≡ 2 ^ i ⌝ }
+{
+    1u64 << i
 }
 
 // The mask, if it is on, with k and with the numbers of another mask.

@@ -3,7 +3,7 @@ use Prim.Native.Nat.{_^_, _<_}
 use native.Mathlib.Omega.{arith}
 use Rattle.optimum.specs.Table.{stored}
 use Rattle.best.specs.Scratch.{keyAt, rows}
-use Rattle.masks.proofs.Bits.{bit-is, minus-small, minus-less, taken-off}
+use Rattle.masks.proofs.Bits.{minus-small, minus-less, taken-off}
 use Rattle.best.proofs.Banks.{Searched, search-start, search-turn, search-end}
 use borrow.Author.Needs.{needs}
 use Rattle.best.proofs.scratch.best_in.Statement.{statement}
@@ -28,7 +28,7 @@ better-of-requires : tie.Need-better-of-requires Inv-loop μ-loop
 better-of-requires c κs = tt
 
 bit-requires : tie.Need-bit-requires Inv-loop μ-loop
-bit-requires c κs = search needs
+bit-requires c κs = c .before .before .highest .ensures .few
 
 mul-without : tie.Need-mul-without Inv-loop μ-loop
 mul-without c = omega (arith, c .before .before .before .highest .ensures .few)
@@ -48,7 +48,7 @@ loop-less c =
     let top = c .before .before .before .before .before in
     let test = top .before in
     let few = top .highest .ensures .few in
-    rw (c .without .ensures, bit-is few (c .before .before .bit .ensures)) (minus-less _ _ _ (test .before .loop .inv .0) few (top .highest .ensures .has (test .loop-test .taken)) (taken-off _ _))
+    rw (c .without .ensures, c .before .before .bit .ensures) (minus-less _ _ _ (test .before .loop .inv .0) few (top .highest .ensures .has (test .loop-test .taken)) (taken-off _ _))
 
 loop-again : tie.Need-loop-again Inv-loop μ-loop
 loop-again c =
@@ -57,7 +57,7 @@ loop-again c =
     let test = top .before in
     let turn = test .before in
     let few = top .highest .ensures .few in
-    (rw (c .without .ensures) (minus-small _ _), search-turn (turn .before .before .before .pre) (turn .loop .inv .1) _ few (top .highest .ensures .has (test .loop-test .taken)) (key-at .key-at .ensures) (c .before .before .before .better-of .ensures) (rw (bit-is few (c .before .before .bit .ensures)) at (c .without .ensures)))
+    (rw (c .without .ensures) (minus-small _ _), search-turn (turn .before .before .before .pre) (turn .loop .inv .1) _ few (top .highest .ensures .has (test .loop-test .taken)) (key-at .key-at .ensures) (c .before .before .before .better-of .ensures) (rw (c .before .before .bit .ensures) at (c .without .ensures)))
 
 returns : tie.Need-returns Inv-loop μ-loop
 returns c = search-end (c .before .before .before .before .pre) (c .before .loop .inv .1) (c .loop-test .left)

@@ -4,7 +4,6 @@ use mathlib.Core.Path.{_≡_}
 use native.Mathlib.Omega.{arith}
 use borrow.Author.Needs.{needs, sfits-of}
 use mir.Facts.{toZ-ofZ}
-use Rattle.masks.proofs.Bits.{bit-is}
 use Rattle.best.specs.Scratch.{itemsOf, ItemsFilled}
 use Rattle.best.proofs.Rows.{items-start, item-room, item-small, item-turn}
 use Rattle.best.proofs.scratch.fill_items.Statement.{statement}
@@ -55,7 +54,10 @@ element-copy-out-clipped c =
     (turn .before .before .before .pre .0 .limited .numbered .within) (turn .loop .y) (test .loop-test .taken)
 
 bit-requires : tie.Need-bit-requires Inv-loop μ-loop
-bit-requires c κs = search needs
+bit-requires c κs =
+    let test = c .before .before .before .before .before .before .before .before in
+    let turn = test .before in
+    (turn .before .before .before .pre .0 .limited .numbered .within) (turn .loop .y) (test .loop-test .taken)
 
 clipped-requires : tie.Need-clipped-requires Inv-loop μ-loop
 clipped-requires c κs =
@@ -63,7 +65,7 @@ clipped-requires c κs =
     let test = fill-row .before .before .before .before in
     let turn = test .before in
     let start = turn .before .before .before in
-    rw (bit-is (start .pre .0 .limited .numbered .within (turn .loop .y) (test .loop-test .taken)) (c .bit .ensures)) (item-small _ _ (start .pre .0) _ (start .pre .1) _ (test .loop-test .taken) _ (turn .loop .inv .1) _ _ _ (fill-row .fill-row .ensures))
+    rw (c .bit .ensures) (item-small _ _ (start .pre .0) _ (start .pre .1) _ (test .loop-test .taken) _ (turn .loop .inv .1) _ _ _ (fill-row .fill-row .ensures))
 
 put-requires : tie.Need-put-requires Inv-loop μ-loop
 put-requires c κs =
@@ -90,7 +92,7 @@ loop-again c =
     let test = fill-row .before .before .before .before in
     let turn = test .before in
     let start = turn .before .before .before in
-    (omega (arith, test .loop-test .taken), item-turn _ _ (start .pre .0) _ (start .pre .1) _ (test .loop-test .taken) _ (turn .loop .inv .1) _ _ _ (fill-row .fill-row .ensures) _ _ _ (rw (toZ-ofZ (sfits-of (clipped-arg .clipped-arg .given)), bit-is (start .pre .0 .limited .numbered .within (turn .loop .y) (test .loop-test .taken)) (bit .bit .ensures)) at (clipped .clipped .ensures)) (c .before .before .put .ensures))
+    (omega (arith, test .loop-test .taken), item-turn _ _ (start .pre .0) _ (start .pre .1) _ (test .loop-test .taken) _ (turn .loop .inv .1) _ _ _ (fill-row .fill-row .ensures) _ _ _ (rw (toZ-ofZ (sfits-of (clipped-arg .clipped-arg .given)), bit .bit .ensures) at (clipped .clipped .ensures)) (c .before .before .put .ensures))
 
 same-length : tie.Need-same-length Inv-loop μ-loop
 same-length c = c .before .loop .inv .1 .long

@@ -8,7 +8,7 @@ use Rattle.seed.specs.AreaList as stands
 use Rattle.seed.specs.Pairs.{pairsOf}
 use Rattle.seed.specs.declared.Pair.{Pair}
 use Rattle.standing.specs.Stands.{alone}
-use Rattle.masks.proofs.Bits.{bit-is, minus-small, minus-less, taken-off-with}
+use Rattle.masks.proofs.Bits.{minus-small, minus-less, taken-off-with}
 use Rattle.standing.proofs.Knowing.{Known, known-start, known-with, known-left, known-under}
 use Rattle.standing.proofs.Relating.{masks-are}
 use borrow.Author.Needs.{needs}
@@ -25,7 +25,7 @@ last-pair-requires : tie.Need-last-pair-requires Inv-loop μ-loop
 last-pair-requires c κs = search needs
 
 bit-requires : tie.Need-bit-requires Inv-loop μ-loop
-bit-requires c κs = search needs
+bit-requires c κs = c .before .before .before .before .before .pre .0
 
 sub-rest : tie.Need-sub-rest Inv-loop μ-loop
 sub-rest c = rw (c .bit .ensures) (pow-pos _)
@@ -33,7 +33,7 @@ sub-rest c = rw (c .bit .ensures) (pow-pos _)
 loop-holds : tie.Need-loop-holds Inv-loop μ-loop
 loop-holds c =
     let few = c .before .before .before .before .before .before .pre .0 in
-    rw (bit-is few (c .bit .ensures)) (omega arith, omega arith, omega (arith, pow-lt few), known-start _ _ _)
+    rw (c .bit .ensures) (omega arith, omega arith, omega (arith, pow-lt few), known-start _ _ _)
 
 highest-requires : tie.Need-highest-requires Inv-loop μ-loop
 highest-requires c κs = search needs
@@ -48,7 +48,7 @@ with-seed-requires : tie.Need-with-seed-requires Inv-loop μ-loop
 with-seed-requires c κs = c .before .before .highest .ensures .few
 
 bit-requires-2 : tie.Need-bit-requires-2 Inv-loop μ-loop
-bit-requires-2 c κs = search needs
+bit-requires-2 c κs = c .before .before .before .highest .ensures .few
 
 without-requires : tie.Need-without-requires Inv-loop μ-loop
 without-requires c κs = tt
@@ -58,7 +58,7 @@ loop-less c =
     let top = c .before .before .before .before .before .before .before in
     let test = top .before in
     let few = top .highest .ensures .few in
-    rw (c .without .ensures, bit-is few (c .before .before .before .bit2 .ensures)) (minus-less _ _ _ (test .before .loop .inv .2) few (top .highest .ensures .has (test .loop-test .taken)) (taken-off-with _ _ _))
+    rw (c .without .ensures, c .before .before .before .bit2 .ensures) (minus-less _ _ _ (test .before .loop .inv .2) few (top .highest .ensures .has (test .loop-test .taken)) (taken-off-with _ _ _))
 
 loop-again : tie.Need-loop-again Inv-loop μ-loop
 loop-again c =
@@ -72,7 +72,7 @@ loop-again c =
       omega (arith, c .before .before .struct-known .given),
       omega (arith, c .before .struct-known2 .given),
       rw (c .without .ensures) (minus-small _ _),
-      known-with _ _ _ _ _ _ _ (pre .1) (inv .3) (omega (arith, pre .0)) _ there _ _ (stands .stands-to .ensures) (ap (λ (s : Pair). s ∷ []) (last .last-in .ensures)) (c .before .before .before .before .with-seed .ensures) (rw (bit-is (top .highest .ensures .few) (c .before .before .before .bit2 .ensures)) at (c .without .ensures)),
+      known-with _ _ _ _ _ _ _ (pre .1) (inv .3) (omega (arith, pre .0)) _ there _ _ (stands .stands-to .ensures) (ap (λ (s : Pair). s ∷ []) (last .last-in .ensures)) (c .before .before .before .before .with-seed .ensures) (rw (c .before .before .before .bit2 .ensures) at (c .without .ensures)),
     )
 
 returns : tie.Need-returns Inv-loop μ-loop

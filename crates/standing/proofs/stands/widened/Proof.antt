@@ -1,6 +1,5 @@
 -- `standing::stands::widened` meets its contract.
 use borrow.Author.Needs.{needs}
-use Rattle.masks.proofs.Bits.{bit-is}
 use Rattle.standing.specs.Stands.{widenedBy}
 use Rattle.standing.proofs.stands.widened.Statement.{statement}
 use Rattle.standing.proofs.stands.widened.Tie as tie
@@ -10,7 +9,7 @@ bit-requires c κs = search needs
 
 returns : tie.Need-returns
 unfolding widenedBy
-returns c = rw (c .before .if1 .taken, bit-is (c .before .before .pre) (c .bit .ensures))
+returns c = rw (c .before .if1 .taken, c .bit .ensures)
 
 returns-2 : tie.Need-returns-2
 unfolding widenedBy
