@@ -71,3 +71,8 @@ given false g p later = later
 abbrev pub unless : Answer → Answer → Answer
 unless Accepted later = later
 unless (Refused g p) later = Refused g p
+
+-- What is chosen by an answer: the first if the call is accepted, the second if it is refused.
+abbrev pub decide : {A : Type 0} → Answer → A → A → A
+decide Accepted x y = x
+decide (Refused g p) x y = y
