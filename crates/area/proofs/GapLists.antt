@@ -15,7 +15,7 @@ use Rattle.seed.specs.AreaList.{fits, areas}
 use Rattle.area.specs.Gaps.{gap, meets, like, meet, boxesBelow}
 use Rattle.seed.specs.declared.Pair.{Pair}
 use Rattle.seed.proofs.Tabs.{length-tab, getD-tab}
-use Rattle.seed.proofs.Tells.{Tells, tells-eq, tells-as, tells-and, tells-not}
+use Rattle.answer.proofs.Tells.{Tells, tells-eq, tells-as, tells-and, tells-not}
 use Rattle.seed.proofs.Sides.{tells-fits}
 use Rattle.seed.proofs.Areas.{bound}
 use Rattle.area.proofs.Gaps.{gap-fits}

@@ -19,7 +19,7 @@ use Rattle.judge.specs.Grounds.{BothRise, BothBordered, Judged, ground15
 use Rattle.seed.specs.Tests.{rises, rooted, bordered}
 use Rattle.judge.specs.Judge.{passed, judgeOf}
 use Rattle.seed.specs.declared.Pair.{Pair}
-use Rattle.seed.proofs.Tells.{Tells, tells-not-false, tells-and}
+use Rattle.answer.proofs.Tells.{Tells, tells-not-false, tells-and}
 use Rattle.judge.proofs.JudgeSteps.{judge-15, judge-16, judge-17, judge-18, judge-19, judge-none}
 use Rattle.seed.proofs.SeedTest.{tells-nodes, tells-rises, tells-alike, tells-rooted, tells-bordered, rising-mapping, rises-too}
 

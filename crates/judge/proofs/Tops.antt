@@ -11,7 +11,7 @@ use Rattle.tree.specs.Nested.{leaf, In, Nested}
 use Rattle.tree.proofs.Leaves.{lt-or-le}
 use Rattle.seed.specs.Tests.{children}
 use Rattle.seed.proofs.Trees.{own, nest, self, within}
-use Rattle.seed.proofs.Tells.{tells-not-false}
+use Rattle.answer.proofs.Tells.{tells-not-false}
 use Rattle.judge.proofs.JudgeSteps.{Walked, walk-start, walk-end, walk-no, walk-on}
 use Rattle.judge.specs.Steps.{Ups, Cut, Tops, Joined}
 use Rattle.judge.specs.Steps.Joined.{whole}
