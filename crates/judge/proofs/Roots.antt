@@ -1,4 +1,4 @@
--- The last pair, which is to be an ancestor of all others, and two lists of nodes as one list of pairs. Assumes nothing.
+-- The last pair, which is to be an ancestor of all others, and two lists of nodes as one list of pairs.
 use mathlib.Core.Path.{_≡_, refl, sym, ap, _∙_}
 use mathlib.Core.Bool.{Bool, true, false, _&&_, false≢true}
 use mathlib.Core.Logic.{_⊎_, inl, inr}

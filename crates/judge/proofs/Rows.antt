@@ -1,4 +1,4 @@
--- Ancestry by rows: where the row of the listed nodes below a node begins, and what the rows of both trees say of it. Assumes nothing.
+-- Ancestry by rows: where the row of the listed nodes below a node begins, and what the rows of both trees say of it.
 use mathlib.Core.Path.{_≡_, refl, sym}
 use mathlib.Core.Bool.{Bool, true, false}
 use mathlib.Core.Logic.{_⊎_, inl, inr, _↔_}

@@ -1,4 +1,4 @@
--- The highest nodes passed of which a test is true, and the children of the next one. Assumes nothing.
+-- The highest nodes passed of which a test is true, and the children of the next one.
 use mathlib.Core.Path.{_≡_, sym, _∙_}
 use mathlib.Core.Bool.{Bool, true, false, true≢false}
 use mathlib.Core.Logic.{inl, inr}
