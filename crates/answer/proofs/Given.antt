@@ -1,4 +1,4 @@
--- What a chain of grounds says of the answer. Assumes nothing.
+-- What a chain of grounds says of the answer.
 use mathlib.Core.Path.{_≡_, refl, sym, ap, _∙_}
 use mathlib.Core.Bool.{Bool, true, false, not}
 use Rattle.answer.specs.Answer.{given, unless}

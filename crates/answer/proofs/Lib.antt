@@ -1,3 +1,5 @@
 pub mod Numbers
 pub mod Denied
 pub mod Given
+pub mod Tells
+pub mod Grounds

@@ -1,4 +1,4 @@
--- No two grounds have one number, so what an answer says is all of the answer. Assumes nothing.
+-- No two grounds have one number, so what an answer says is all of the answer.
 use mathlib.Core.Path.{_≡_, refl, sym, ap, ap₂, _∙_}
 use Prim.Native.Nat.{ℕ}
 use native.Mathlib.Omega.{arith}

@@ -1,4 +1,4 @@
--- The numbered grounds for turning a call down (document 01), and what an answer says by them. Assumes nothing.
+-- The numbered grounds for turning a call down (document 01), and what an answer says by them.
 use mathlib.Core.Bool.{Bool, true, false}
 use Prim.Native.Nat.{ℕ}
 use Rattle.answer.specs.declared.Ground.{Ground}

@@ -1,6 +1,7 @@
 // What every call answers: accepted, or refused on a numbered ground at a place.
 ghost use mathlib.Core.Path.{_≡_};
 ghost use Rattle.answer.specs.Answer.{numberOf};
+ghost use Rattle.answer.specs.declared.Answer.the-variants as answer;
 
 // The grounds for turning a call down, in the order of their numbers.
 pub enum Ground {
@@ -39,6 +40,13 @@ pub enum Place {
 pub enum Answer {
     Accepted,
     Refused { ground: Ground, place: Place },
+}
+
+// A refusal on a ground at a place.
+pub fn refused(ground: Ground, place: Place) -> Answer
+    ensures { λ r. ⌜ r ≡ answer.Refused ground place ⌝ }
+{
+    Answer::Refused { ground, place }
 }
 
 // The number that stands for a ground in what is printed.

@@ -1,4 +1,4 @@
--- The areas of a seed are the boxes of pairs whose gaps are the same. Assumes nothing.
+-- The areas of a seed are the boxes of pairs whose gaps are the same.
 use mathlib.Core.Path.{_≡_, refl, sym, _∙_}
 use mathlib.Core.Bool.{Bool, true, false}
 use mathlib.Core.Logic.{inl, inr, _≢_}
@@ -15,7 +15,7 @@ use Rattle.seed.specs.AreaList.{fits, areas}
 use Rattle.area.specs.Gaps.{gap, meets, like, meet, boxesBelow}
 use Rattle.seed.specs.declared.Pair.{Pair}
 use Rattle.seed.proofs.Tabs.{length-tab, getD-tab}
-use Rattle.seed.proofs.Tells.{Tells, tells-eq, tells-as, tells-and, tells-not}
+use Rattle.answer.proofs.Tells.{Tells, tells-eq, tells-as, tells-and, tells-not}
 use Rattle.seed.proofs.Sides.{tells-fits}
 use Rattle.seed.proofs.Areas.{bound}
 use Rattle.area.proofs.Gaps.{gap-fits}

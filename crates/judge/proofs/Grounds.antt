@@ -1,32 +1,26 @@
--- The judge answers what the grounds 15 to 19 say, and nothing else may be answered; it accepts exactly the seeds. Assumes nothing.
-use mathlib.Core.Path.{_≡_, refl, sym, ap, _∙_}
-use mathlib.Core.Bool.{Bool, true, false, _&&_, false≢true}
+-- What is answered of a list of pairs is what its grounds say, and nothing else; just the seeds are accepted.
+use mathlib.Core.Path.{_≡_}
+use mathlib.Core.Bool.{_&&_}
 use mathlib.Core.Logic.{_↔_}
 use mathlib.Core.List.{List}
 use Prim.Native.Nat.{ℕ, _<_}
 use lib.ListN.{length}
-use Rattle.answer.specs.Answer.{Said, said, numberOf}
-use Rattle.answer.specs.Answer.Said.{accepted, refused}
-use Rattle.answer.specs.declared.Ground.{Ground}
+use borrow.Author.Tests.{not-false}
+use Rattle.answer.specs.Grounds.{Decides}
 use Rattle.answer.specs.declared.Ground.the-variants.{OutsideTree, NotRising, AncestryDiffers, LastNotAncestor, BorderUnpaired}
 use Rattle.answer.specs.declared.Place.the-variants as place
-use Rattle.answer.specs.declared.Answer.{Answer}
-use Rattle.answer.specs.declared.Answer.the-variants.{Accepted, Refused}
+use Rattle.answer.specs.declared.Answer.the-variants.{Accepted}
+use Rattle.answer.proofs.Given.{not-given}
+use Rattle.answer.proofs.Tells.{Tells, tells-and, tells-not}
+use Rattle.answer.proofs.Grounds.{ground, guard}
 use Rattle.tree.specs.Nested.{Nested}
-use Rattle.tree.proofs.Meanings.{clash}
 use Rattle.seed.specs.Seed.{Seed, qs, ts}
-use Rattle.judge.specs.Grounds.{BothRise, BothBordered, Judged, ground15, ground16, ground17, ground18, ground19, none}
-use Rattle.seed.specs.Tests.{rises, rooted, bordered}
-use Rattle.judge.specs.Judge.{passed, judgeOf}
+use Rattle.seed.specs.Tests.{nodesIn, rises, alike, rooted, bordered}
 use Rattle.seed.specs.declared.Pair.{Pair}
-use Rattle.seed.proofs.Tells.{Tells, tells-not-false, tells-and}
-use Rattle.judge.proofs.JudgeSteps.{judge-15, judge-16, judge-17, judge-18, judge-19, judge-none}
 use Rattle.seed.proofs.SeedTest.{tells-nodes, tells-rises, tells-alike, tells-rooted, tells-bordered, rising-mapping, rises-too}
-
--- One ground: its refusal if the test fails, else what the rest says.
-guard : (b : Bool) {P : Type 0} → Tells b P → (J : Said → Type 0) (g : Ground) (n : ℕ) (x : Answer) → (¬ P → J (refused (numberOf g) (place.Seed n))) → (P → J (said x)) → J (said (passed b g n x))
-guard true t J g n x fails holds = holds (t .0 refl)
-guard false t J g n x fails holds = fails (λ p. false≢true (t .1 p))
+use Rattle.judge.specs.Grounds.{BothRise, BothBordered, PairsSay}
+use Rattle.judge.specs.Judge.{judgeOf}
+use Rattle.judge.proofs.JudgeSteps.{judge-none}
 
 module _ {Q T : List ℕ} (tree-q : Nested Q) (tree-t : Nested T) (s : List Pair) (n : ℕ) where
   tells-both-rise : Tells (rises (qs s) && rises (ts s)) (BothRise s)
@@ -35,62 +29,43 @@ module _ {Q T : List ℕ} (tree-q : Nested Q) (tree-t : Nested T) (s : List Pair
   tells-both-bordered : Tells (bordered Q (qs s) && bordered T (ts s)) (BothBordered Q T s)
   tells-both-bordered = tells-and _ _ (tells-bordered tree-q (qs s)) (tells-bordered tree-t (ts s))
 
-  -- What is answered is what the grounds say.
-  pub judged : Judged Q T s n (said (judgeOf Q T s n))
+  pub pairs-decide : Decides (PairsSay Q T s n) (judgeOf Q T s n)
   unfolding judgeOf
-  judged =
-      guard _ (tells-nodes Q T s) (Judged Q T s n) OutsideTree n _ ground15
-      (λ a. guard _ tells-both-rise (Judged Q T s n) NotRising n _ (ground16 a)
-      (λ b. guard _ (tells-alike Q T s) (Judged Q T s n) AncestryDiffers n _ (ground17 a b)
-      (λ c. guard _ (tells-rooted Q T s) (Judged Q T s n) LastNotAncestor n _ (ground18 a b c)
-      (λ d. guard _ tells-both-bordered (Judged Q T s n) BorderUnpaired n Accepted (ground19 a b c d)
-      (none a b c d)))))
+  pairs-decide =
+      guard _ (tells-not (nodesIn Q T s) (tells-nodes Q T s)) OutsideTree (place.Seed n)
+      (guard _ (tells-not (rises (qs s) && rises (ts s)) tells-both-rise) NotRising (place.Seed n)
+      (guard _ (tells-not (alike Q T s) (tells-alike Q T s)) AncestryDiffers (place.Seed n)
+      (guard _ (tells-not (rooted Q T s) (tells-rooted Q T s)) LastNotAncestor (place.Seed n)
+      (ground _ (tells-not (bordered Q (qs s) && bordered T (ts s)) tells-both-bordered) BorderUnpaired (place.Seed n)))))
 
-  -- Each ground is given if its condition holds and no earlier one's does, and never otherwise.
-  pub decided : {x : Said} → Judged Q T s n x → x ≡ said (judgeOf Q T s n)
-  decided (ground15 a) = rw (judge-15 Q T s n (tells-not-false _ (tells-nodes Q T s) a))
-  decided (ground16 a b) = rw (judge-16 Q T s n (tells-nodes Q T s .1 a) (tells-not-false _ tells-both-rise b))
-  decided (ground17 a b c) = rw (judge-17 Q T s n (tells-nodes Q T s .1 a) (tells-both-rise .1 b) (tells-not-false _ (tells-alike Q T s) c))
-  decided (ground18 a b c d) =
-      rw (judge-18 Q T s n (tells-nodes Q T s .1 a) (tells-both-rise .1 b) (tells-alike Q T s .1 c) (tells-not-false _ (tells-rooted Q T s) d))
-  decided (ground19 a b c d e) =
-      rw (judge-19 Q T s n (tells-nodes Q T s .1 a) (tells-both-rise .1 b) (tells-alike Q T s .1 c) (tells-rooted Q T s .1 d) (tells-not-false _ tells-both-bordered e))
-  decided (none a b c d e) =
-      rw (judge-none Q T s n (tells-nodes Q T s .1 a) (tells-both-rise .1 b) (tells-alike Q T s .1 c) (tells-rooted Q T s .1 d) (tells-both-bordered .1 e))
-
-  -- The grounds say just one answer.
-  pub judged-one : {x y : Said} → Judged Q T s n x → Judged Q T s n y → x ≡ y
-  judged-one a b = decided a ∙ sym (decided b)
-
-  accepted-seed : 0 < length s → {x : Said} → Judged Q T s n x → x ≡ accepted → Seed Q T s
-  accepted-seed h (ground15 a) z = clash (cc)
-  accepted-seed h (ground16 a b) z = clash (cc)
-  accepted-seed h (ground17 a b c) z = clash (cc)
-  accepted-seed h (ground18 a b c d) z = clash (cc)
-  accepted-seed h (ground19 a b c d e) z = clash (cc)
-  accepted-seed h (none a b c d e) z =
+  accepted-seed : 0 < length s → judgeOf Q T s n ≡ Accepted → Seed Q T s
+  unfolding judgeOf
+  accepted-seed h e =
+      let a = not-given _ OutsideTree (place.Seed n) _ e in
+      let b = not-given _ NotRising (place.Seed n) _ (a .1) in
+      let c = not-given _ AncestryDiffers (place.Seed n) _ (b .1) in
+      let d = not-given _ LastNotAncestor (place.Seed n) _ (c .1) in
+      let f = not-given _ BorderUnpaired (place.Seed n) _ (d .1) in
+      let rise = tells-both-rise .0 (not-false _ (b .0)) in
+      let border = tells-both-bordered .0 (not-false _ (f .0)) in
       record {
         some = h;
-        nodes = a;
-        mapping = rising-mapping Q T s (b .0) (b .1) c;
-        rising = b .0;
-        rooted = d;
-        border-q = e .0;
-        border-t = e .1;
+        nodes = tells-nodes Q T s .0 (not-false _ (a .0));
+        mapping = rising-mapping Q T s (rise .0) (rise .1) (tells-alike Q T s .0 (not-false _ (c .0)));
+        rising = rise .0;
+        rooted = tells-rooted Q T s .0 (not-false _ (d .0));
+        border-q = border .0;
+        border-t = border .1;
       }
 
-  seed-judged : Seed Q T s → Judged Q T s n accepted
-  seed-judged h =
-      none (h .nodes)
-      (h .rising, rises-too s (λ a b ma mb. h .mapping a b ma mb .before .0) (h .rising))
-      (λ a b ma mb. h .mapping a b ma mb .above)
-      (h .rooted)
-      (h .border-q, h .border-t)
-
-  said-accepted : (x : Answer) → accepted ≡ said x → x ≡ Accepted
-  said-accepted Accepted e = refl
-  said-accepted (Refused g p) e = clash (cc)
+  seed-accepted : Seed Q T s → judgeOf Q T s n ≡ Accepted
+  seed-accepted h =
+      judge-none Q T s n (tells-nodes Q T s .1 (h .nodes))
+      (tells-both-rise .1 (h .rising, rises-too s (λ a b ma mb. h .mapping a b ma mb .before .0) (h .rising)))
+      (tells-alike Q T s .1 (λ a b ma mb. h .mapping a b ma mb .above))
+      (tells-rooted Q T s .1 (h .rooted))
+      (tells-both-bordered .1 (h .border-q, h .border-t))
 
   -- A list that is not empty is accepted exactly if it is a seed.
   pub accepts-seeds : 0 < length s → (judgeOf Q T s n ≡ Accepted) ↔ Seed Q T s
-  accepts-seeds h = (λ e. accepted-seed h judged (ap said e), λ w. said-accepted (judgeOf Q T s n) (decided (seed-judged w)))
+  accepts-seeds h = (accepted-seed h, seed-accepted)

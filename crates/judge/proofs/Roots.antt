@@ -1,4 +1,4 @@
--- The last pair, which is to be an ancestor of all others, and two lists of nodes as one list of pairs. Assumes nothing.
+-- The last pair, which is to be an ancestor of all others, and two lists of nodes as one list of pairs.
 use mathlib.Core.Path.{_≡_, refl, sym, ap, _∙_}
 use mathlib.Core.Bool.{Bool, true, false, _&&_, false≢true}
 use mathlib.Core.Logic.{_⊎_, inl, inr}
@@ -14,7 +14,7 @@ use Rattle.seed.specs.Tests.{every, nodeIn, nodesIn, rises, rootOf, rooted}
 use Rattle.seed.specs.Pairs.{pairOf, pairsOf}
 use Rattle.seed.specs.declared.Pair.{Pair}
 use Rattle.seed.proofs.Trees.{own}
-use Rattle.seed.proofs.Tells.{Tells, tells-not-false, tells-le, tells-lt, tells-eq, tells-as, tells-and, tells-or}
+use Rattle.answer.proofs.Tells.{Tells, tells-not-false, tells-le, tells-lt, tells-eq, tells-as, tells-and, tells-or}
 use Rattle.seed.proofs.Sides.{tells-above}
 use Rattle.seed.proofs.PairLists.{count-first, last-pair-at, nodes-first, nodes-second, cut-first, cut-second}
 use Rattle.judge.proofs.JudgeSteps.{last-node-at}

@@ -1,4 +1,4 @@
--- Ancestry by rows: where the row of the listed nodes below a node begins, and what the rows of both trees say of it. Assumes nothing.
+-- Ancestry by rows: where the row of the listed nodes below a node begins, and what the rows of both trees say of it.
 use mathlib.Core.Path.{_≡_, refl, sym}
 use mathlib.Core.Bool.{Bool, true, false}
 use mathlib.Core.Logic.{_⊎_, inl, inr, _↔_}
@@ -13,7 +13,7 @@ use Rattle.seed.specs.Tests.{every, alikeAt, alikeTo}
 use Rattle.seed.specs.Pairs.{pairOf, pairsOf}
 use Rattle.seed.specs.declared.Pair.{Pair}
 use Rattle.seed.proofs.Trees.{own, nest}
-use Rattle.seed.proofs.Tells.{Tells, tells-as, tells-and, tells-same}
+use Rattle.answer.proofs.Tells.{Tells, tells-as, tells-and, tells-same}
 use Rattle.seed.proofs.Sides.{tells-above}
 use Rattle.seed.proofs.PairLists.{count-first}
 use Rattle.judge.specs.Steps.{Ups, Cut, Rows, Risen}

@@ -1,4 +1,4 @@
--- The highest nodes passed of which a test is true, and the children of the next one. Assumes nothing.
+-- The highest nodes passed of which a test is true, and the children of the next one.
 use mathlib.Core.Path.{_≡_, sym, _∙_}
 use mathlib.Core.Bool.{Bool, true, false, true≢false}
 use mathlib.Core.Logic.{inl, inr}
@@ -11,7 +11,7 @@ use Rattle.tree.specs.Nested.{leaf, In, Nested}
 use Rattle.tree.proofs.Leaves.{lt-or-le}
 use Rattle.seed.specs.Tests.{children}
 use Rattle.seed.proofs.Trees.{own, nest, self, within}
-use Rattle.seed.proofs.Tells.{tells-not-false}
+use Rattle.answer.proofs.Tells.{tells-not-false}
 use Rattle.judge.proofs.JudgeSteps.{Walked, walk-start, walk-end, walk-no, walk-on}
 use Rattle.judge.specs.Steps.{Ups, Cut, Tops, Joined}
 use Rattle.judge.specs.Steps.Joined.{whole}

@@ -1,9 +1,9 @@
--- Grounds 15 to 19 (document 01) for a list of pairs that is to be seed number n, and what an answer must say by them. Assumes nothing.
+-- Grounds 15 to 19 (document 01) for a list of pairs that is to be seed number n, and what an answer must say by them.
 use mathlib.Core.List.{List}
 use Prim.Native.Nat.{ℕ}
 use Rattle.answer.specs.Answer.{Said}
-use Rattle.answer.specs.Answer.Said.{accepted, refused}
-use Rattle.answer.specs.declared.Place.the-variants as place
+use Rattle.answer.specs.Grounds.{GivenIf, _then_}
+use Rattle.answer.specs.declared.Place.the-variants.{Seed}
 use Rattle.seed.specs.Seed.{qs, ts, Nodes, Rising, Alike, Rooted, Bordered}
 use Rattle.seed.specs.declared.Pair.{Pair}
 
@@ -15,11 +15,12 @@ BothRise s = Rising (qs s) × Rising (ts s)
 abbrev pub BothBordered : List ℕ → List ℕ → List Pair → Type 0
 BothBordered Q T s = Bordered Q (qs s) × Bordered T (ts s)
 
--- What is to be said of the list: the lowest ground that holds of it, or that none does.
-pub data Judged (Q T : List ℕ) (s : List Pair) (n : ℕ) : Said → Type 0 where
-  ground15 : ¬ Nodes Q T s → Judged Q T s n (refused 15 (place.Seed n))
-  ground16 : Nodes Q T s → ¬ BothRise s → Judged Q T s n (refused 16 (place.Seed n))
-  ground17 : Nodes Q T s → BothRise s → ¬ Alike Q T s → Judged Q T s n (refused 17 (place.Seed n))
-  ground18 : Nodes Q T s → BothRise s → Alike Q T s → ¬ Rooted Q T s → Judged Q T s n (refused 18 (place.Seed n))
-  ground19 : Nodes Q T s → BothRise s → Alike Q T s → Rooted Q T s → ¬ BothBordered Q T s → Judged Q T s n (refused 19 (place.Seed n))
-  none : Nodes Q T s → BothRise s → Alike Q T s → Rooted Q T s → BothBordered Q T s → Judged Q T s n accepted
+-- What is said of the list: a node number is not in its tree; the q or the t are not strictly rising; ancestry differs between two pairs; the
+-- last pair is not an ancestor of all others; a border node is unpaired.
+abbrev pub PairsSay : List ℕ → List ℕ → List Pair → ℕ → Said → Type 0
+PairsSay Q T s n =
+    GivenIf (¬ Nodes Q T s) 15 (Seed n)
+    then GivenIf (¬ BothRise s) 16 (Seed n)
+    then GivenIf (¬ Alike Q T s) 17 (Seed n)
+    then GivenIf (¬ Rooted Q T s) 18 (Seed n)
+    then GivenIf (¬ BothBordered Q T s) 19 (Seed n)

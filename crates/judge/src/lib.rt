@@ -6,6 +6,7 @@ use ancestry::alike;
 use answer::Answer;
 use answer::Ground;
 use answer::Place;
+use answer::refused;
 use border::bordered;
 use seed::leaf_at;
 use seed::pair_count;
@@ -13,8 +14,6 @@ use tree::Tree;
 ghost use mathlib.Core.Path.{_≡_};
 ghost use mathlib.Core.Bool.{true, _&&_};
 ghost use lib.ListN.{length};
-ghost use Rattle.answer.specs.declared.Answer.the-variants as answer;
-ghost use Rattle.answer.specs.declared.Place.the-variants as place;
 ghost use Rattle.tree.specs.Nested.{Nested};
 ghost use Rattle.tree.specs.Reading.{IsTree, leavesOf};
 ghost use Rattle.seed.specs.Seed as seed;
@@ -92,15 +91,6 @@ fn both_bordered(lq: &[u8], lt: &[u8], qs: &[u8], ts: &[u8], tops: &mut [u8]) ->
     false
 }
 
-fn refused(ground: Ground, number: usize) -> Answer
-    ensures { λ r. ⌜ r ≡ answer.Refused ground (place.Seed number) ⌝ }
-{
-    Answer::Refused {
-        ground,
-        place: Place::Seed(number),
-    }
-}
-
 // What is answered of a list that passed the grounds 15 and 16, its q and its t in two lists of one length.
 fn judge_risen(lq: &[u8], lt: &[u8], qs: &[u8], ts: &[u8], number: usize) -> Answer
     requires { ⌜ Risen (now lq) (now lt) (now qs) (now ts) ⌝ }
@@ -108,13 +98,13 @@ fn judge_risen(lq: &[u8], lt: &[u8], qs: &[u8], ts: &[u8], number: usize) -> Ans
 {
     let mut places: [u8; 256] = [0; 256];
     if !alike(lq, lt, qs, ts, &mut places[..]) {
-        return refused(Ground::AncestryDiffers, number);
+        return refused(Ground::AncestryDiffers, Place::Seed(number));
     }
     if !rooted(lq, lt, qs, ts) {
-        return refused(Ground::LastNotAncestor, number);
+        return refused(Ground::LastNotAncestor, Place::Seed(number));
     }
     if !both_bordered(lq, lt, qs, ts, &mut places[..]) {
-        return refused(Ground::BorderUnpaired, number);
+        return refused(Ground::BorderUnpaired, Place::Seed(number));
     }
     Answer::Accepted
 }
@@ -125,10 +115,10 @@ pub fn judge_on(lq: &[u8], lt: &[u8], qs: &[u8], ts: &[u8], number: usize) -> An
     ensures { λ r. ⌜ r ≡ judgeOf (now (lq .entry)) (now (lt .entry)) (pairsOf (now (qs .entry)) (now (ts .entry))) number ⌝ }
 {
     if !nodes_in(lq.len(), lt.len(), qs, ts) {
-        return refused(Ground::OutsideTree, number);
+        return refused(Ground::OutsideTree, Place::Seed(number));
     }
     if !both_rise(qs, ts) {
-        return refused(Ground::NotRising, number);
+        return refused(Ground::NotRising, Place::Seed(number));
     }
     let count = pair_count(qs, ts);
     judge_risen(lq, lt, &qs[..count], &ts[..count], number)

@@ -1,4 +1,4 @@
--- A part of a run's text that spells a run is the text of neighbouring siblings, and the other way round. Assumes nothing.
+-- A part of a run's text that spells a run is the text of neighbouring siblings, and the other way round.
 use mathlib.Core.Path.{_≡_, refl, sym, ap, ap₂, subst, subst₂, _∙_}
 use mathlib.Core.Logic.{_⊎_, inl, inr, ⊎-elim}
 use Prim.Native.Nat.{ℕ, suc, _+_, _<_}
@@ -13,7 +13,7 @@ use Rattle.stretch.specs.Scan.{endsOf}
 use Rattle.stretch.specs.Stretch.{Siblings}
 use Rattle.stretch.specs.Stretch.Siblings.{here, past-dot, into, past-pair}
 use Rattle.tree.specs.declared.character.Meaning.the-variants.{Closing}
-use Rattle.tree.proofs.Meanings.{clash}
+use Rattle.answer.proofs.Denied.{clash}
 use Rattle.tree.proofs.Splits.{size-spell}
 use Rattle.tree.proofs.Spelling.{read-back, read-spell, before}
 use Rattle.tree.proofs.Partners.{placed, placed-closes, placed-closed, not-closed}

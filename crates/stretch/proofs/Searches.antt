@@ -1,4 +1,4 @@
--- What the search in a text answers is what the search in its tree does, in each case of the code. Assumes nothing.
+-- What the search in a text answers is what the search in its tree does, in each case of the code.
 use mathlib.Core.Path.{_≡_, refl, sym, ap, ap₂, subst, _∙_}
 use Prim.Native.Nat.{ℕ, _+_, _-_, _≤_, _<_}
 use native.Mathlib.Omega.{arith}
@@ -18,7 +18,7 @@ use Rattle.stretch.specs.Scan.{unmoved, scanTo, LocatedRight}
 use Rattle.stretch.specs.declared.search.Scan.{Scan}
 use Rattle.stretch.specs.declared.search.Located.{Located}
 use Rattle.tree.specs.declared.TreeRead.{TreeRead}
-use Rattle.tree.proofs.Meanings.{clash}
+use Rattle.answer.proofs.Denied.{clash}
 use Rattle.tree.proofs.Lengths.{length-few, length-fits}
 use Rattle.tree.proofs.Splits.{size-spell}
 use Rattle.tree.proofs.Grounds.{accepted-spell, read-accepts}

@@ -1,4 +1,4 @@
--- The search in the tree finds the stretch of the nodes a to b exactly if there is one. Assumes nothing.
+-- The search in the tree finds the stretch of the nodes a to b exactly if there is one.
 use mathlib.Core.Path.{_≡_, refl, sym, ap, subst, _∙_}
 use mathlib.Core.Bool.{Bool, true, false}
 use mathlib.Core.Logic.{⊎-elim, _↔_}
@@ -13,7 +13,7 @@ use Rattle.tree.specs.Run.Run.{end, dot, pair}
 use Rattle.stretch.specs.Stretch.{Siblings, Stretch, Found, pickFound, past, withDot, withPair, leading, nodesFrom, stretchIn}
 use Rattle.stretch.specs.Stretch.Siblings.{here, past-dot, into, past-pair}
 use Rattle.stretch.specs.Stretch.Found.{at, nowhere}
-use Rattle.tree.proofs.Meanings.{clash}
+use Rattle.answer.proofs.Denied.{clash}
 use Rattle.tree.proofs.Leaves.{lt-or-le}
 
 -- A search takes the one or the other way, by its test.

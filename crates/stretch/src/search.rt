@@ -2,6 +2,7 @@
 use answer::Answer;
 use answer::Ground;
 use answer::Place;
+use answer::refused;
 use tree::character::Meaning;
 use tree::character::meaning_of;
 use tree::read;
@@ -95,10 +96,7 @@ fn nowhere() -> Located
     ensures { λ r. ⌜ r ≡ locatedBy Found.nowhere ⌝ }
 {
     Located {
-        answer: Answer::Refused {
-            ground: Ground::OutsideTree,
-            place: Place::Nothing,
-        },
+        answer: refused(Ground::OutsideTree, Place::Nothing),
         from: 0,
         to: 0,
     }

@@ -1,4 +1,4 @@
--- The first refused byte of a text. Assumes nothing.
+-- The first refused byte of a text.
 use mathlib.Core.Path.{_≡_, refl, sym, ap, ap₂, _∙_}
 use mathlib.Core.Bool.{Bool, true, false, _&&_, false≢true}
 use mathlib.Core.Logic.{_⊎_, ⊎-elim}
@@ -9,7 +9,8 @@ use mathlib.Core.List.{List, [], _∷_, _++_, nil≢cons, head-eq-of-cons-eq, ta
 use lib.ListN.{length, getD, drop, length-append, drop-of-length-le}
 use lib.Seq.{drop-cons}
 use Rattle.tree.specs.Reading.{meaningOf, known, allKnown, orNext, firstRefused}
-use Rattle.tree.specs.Grounds.{UnknownByteAt, First, Never}
+use Rattle.answer.specs.Grounds.{First, Never}
+use Rattle.tree.specs.Grounds.{UnknownByteAt}
 use Rattle.tree.specs.declared.character.Meaning.{Meaning}
 use Rattle.tree.specs.declared.character.Meaning.the-variants.{Unpaired, Opening, Closing, Refused}
 use Rattle.tree.proofs.Meanings.{tag}

@@ -1,39 +1,50 @@
--- What reading answers is what grounds 1 to 4 say of the text, and nothing else. Assumes nothing.
+-- What is answered of a text is what its grounds say, and nothing else.
 use mathlib.Core.Path.{_≡_, refl, sym, ap, subst, _∙_}
-use mathlib.Core.Bool.{Bool, true, false, true≢false}
+use mathlib.Core.Bool.{Bool, true, false}
 use mathlib.Core.Logic.{⊎-elim, _↔_}
 use Prim.Native.Nat.{ℕ, _≤_, _<_}
 use native.Mathlib.Omega.{arith}
 use mathlib.Core.List.{List, [], _∷_, _++_, append-nil}
 use lib.ListN.{length, getD, length-append}
 use borrow.Author.Tests.{eq-eqb, ne-eqb}
-use Rattle.answer.specs.Answer.{Said, said}
+use Rattle.answer.specs.Answer.{Said}
+use Rattle.answer.specs.Grounds.{GivenIf, First, Never, GivenFirst, _then_, Decides}
+use Rattle.answer.specs.declared.Ground.the-variants.{TextLength, UnknownByte, ClosesNothing, NeverClosed}
 use Rattle.answer.specs.declared.Place.the-variants.{ByteInQ}
+use Rattle.answer.specs.declared.Answer.{Answer}
+use Rattle.answer.specs.declared.Answer.the-variants.{Accepted, Refused}
+use Rattle.answer.proofs.Denied.{clash}
+use Rattle.answer.proofs.Grounds.{ground, ground-first, ground-never, stops, goes-on}
 use Rattle.tree.specs.Run.{Run, spell}
 use Rattle.tree.specs.Reading.{meaningOf, Meant, Runs, first, runs, Reading, reading, answerOf, badLength, firstRefused, stopped, groundAt}
 use Rattle.tree.specs.Reading.Runs.{last, more}
 use Rattle.tree.specs.Reading.Reading.{accepted, refused}
-use Rattle.tree.specs.Grounds.{UnknownByteAt, Closes, Closed, ClosesNothingAt, NeverClosedAt, First, Never, Judged}
-use Rattle.tree.specs.Grounds.Judged.{ground1, ground2, ground3, ground4, structure}
+use Rattle.tree.specs.Grounds.{UnknownByteAt, Closes, Closed, ClosesNothingAt, NeverClosedAt, LengthRefused, TextSays}
 use Rattle.tree.specs.declared.character.Meaning.{Meaning}
 use Rattle.tree.specs.declared.character.Meaning.the-variants.{Opening, Closing}
-use Rattle.tree.proofs.Meanings.{clash}
 use Rattle.tree.proofs.Leaves.{lt-or-le}
 use Rattle.tree.proofs.FirstRefused.{refused-there, refused-first, refused-never, within, Clean, clean, clean-front}
-use Rattle.tree.proofs.Splits.{Stop, Splits, splits, ended, after}
+use Rattle.tree.proofs.Lengths.{tells-length}
+use Rattle.tree.proofs.Splits.{Stop, Splits, splits, begins, ended, after}
 use Rattle.tree.proofs.Splits.Stop.{none, open-at, bad-at}
 use Rattle.tree.proofs.Spelling.{read-spell, first-meant}
 use Rattle.tree.proofs.Partners.{cut, closed-more, placed, placed-closes, placed-closed, placed-clean, not-closed, spell-not-opened, closes-all}
 use Rattle.tree.proofs.Texts.{read-length, read-unknown, read-stopped}
 
--- What a reading says.
-abbrev pub saidOf : Reading → Said
-saidOf x = said (answerOf x)
+abbrev Decided : List ℕ → Reading → Type 0
+Decided s x = Decides (TextSays s) (answerOf x)
+
+-- Ground 1, by its test.
+length-given : (s : List ℕ) → badLength (length s) ≡ true → Decides (GivenIf (LengthRefused s) 1 (ByteInQ 0)) (Refused TextLength (ByteInQ 0))
+length-given s h = rw h at (ground (badLength (length s)) (tells-length (length s)) TextLength (ByteInQ 0))
+
+length-passed : (s : List ℕ) → badLength (length s) ≡ false → Decides (GivenIf (LengthRefused s) 1 (ByteInQ 0)) Accepted
+length-passed s h = rw h at (ground (badLength (length s)) (tells-length (length s)) TextLength (ByteInQ 0))
 
 -- What is read of a text that is neither refused for its length nor for a byte.
 module _ (s : List ℕ) (fits : badLength (length s) ≡ false) (known : length s ≤ firstRefused s) where
-  stops : reading s ≡ stopped s (first (runs s))
-  stops = read-stopped s fits (firstRefused s) refl known
+  reads : reading s ≡ stopped s (first (runs s))
+  reads = read-stopped s fits (firstRefused s) refl known
 
   -- Every bracket before the byte at which the first run stops has its partner.
   closing-before : (r : Run) → Meant r → (t f : List ℕ) (x : ℕ) (q : List ℕ) → meaningOf x ≡ Closing → s ≡ spell r ++ t → s ≡ f ++ x ∷ q → length f < length (spell r) → Closes f
@@ -77,72 +88,41 @@ module _ (s : List ℕ) (fits : badLength (length s) ≡ false) (known : length 
   stopped-end : (r : Run) → s ≡ spell r → stopped s r ≡ accepted r
   stopped-end r e = rw (eq-eqb (length (spell r)) (length s) (sym (ap length e)))
 
+  -- Grounds 1 and 2 are not given.
+  no-unknown : {K : Said → Type 0} {a : Answer} → Decides K a → Decides (GivenIf (LengthRefused s) 1 (ByteInQ 0) then GivenFirst (UnknownByteAt s) 2 ByteInQ then K) a
+  no-unknown d = goes-on (length-passed s fits) (goes-on (ground-never UnknownByte ByteInQ (refused-never s known)) d)
+
   -- By what follows the first run: a closing byte, an opening one, or the end.
-  judged-last : (r : Run) → Meant r → (t : List ℕ) → runs s ≡ last r → s ≡ spell r ++ t → Stop t → Judged s (saidOf (stopped s r))
-  judged-last r m [] f e none =
+  last-decides : (r : Run) → Meant r → (t : List ℕ) → runs s ≡ last r → s ≡ spell r ++ t → Stop t → Decided s (stopped s r)
+  last-decides r m [] f e none =
       let e′ : s ≡ spell r = e ∙ append-nil (spell r) in
-      subst (λ (x : Reading). Judged s (saidOf x)) (sym (stopped-end r e′)) (structure r fits (refused-never s known) (no-stray (ap ended f)) (no-unclosed r m e′) m e′)
-  judged-last r m (c ∷ t) f e (open-at {q = q} k g) =
-      subst (λ (x : Reading). Judged s (saidOf x)) (sym (stopped-at r c t e Opening k)) (ground4 fits (refused-never s known) (no-stray (ap ended f)) (unclosed r m c t q k e g))
-  judged-last r m (c ∷ t) f e (bad-at k) =
+      subst (Decided s) (sym (stopped-end r e′))
+      (no-unknown (goes-on (ground-never ClosesNothing ByteInQ (no-stray (ap ended f))) (ground-never NeverClosed ByteInQ (no-unclosed r m e′))))
+  last-decides r m (c ∷ t) f e (open-at {q = q} k g) =
+      subst (Decided s) (sym (stopped-at r c t e Opening k))
+      (no-unknown (goes-on (ground-never ClosesNothing ByteInQ (no-stray (ap ended f))) (ground-first NeverClosed ByteInQ (unclosed r m c t q k e g))))
+  last-decides r m (c ∷ t) f e (bad-at k) =
       absurd (refused-never s known (length (spell r)) (record { front = spell r; byte = c; back = t; split = e; place = refl; unknown = k }))
 
-  judged-stop : (x : Runs) → runs s ≡ x → Splits x s → Meant (first x) → Judged s (saidOf (stopped s (first x)))
-  judged-stop (last r) f w m = judged-last r m (w .0) f (w .1) (w .2)
-  judged-stop (more r c rs) f w m =
-      subst (λ (x : Reading). Judged s (saidOf x)) (sym (stopped-at r c (w .0) (w .1) Closing (w .2))) (ground3 fits (refused-never s known) (stray r m c (w .0) (w .2) (w .1)))
+  run-decides : (x : Runs) → runs s ≡ x → Splits x s → Meant (first x) → Decided s (stopped s (first x))
+  run-decides (last r) f w m = last-decides r m (w .0) f (w .1) (w .2)
+  run-decides (more r c rs) f w m =
+      subst (Decided s) (sym (stopped-at r c (w .0) (w .1) Closing (w .2)))
+      (no-unknown (stops (ground-first ClosesNothing ByteInQ (stray r m c (w .0) (w .2) (w .1)))))
 
-  judged-known : Judged s (saidOf (reading s))
-  judged-known = subst (λ (x : Reading). Judged s (saidOf x)) (sym stops) (judged-stop (runs s) refl (splits s) (first-meant s))
+  known-decides : Decided s (reading s)
+  known-decides = rw reads (run-decides (runs s) refl (splits s) (first-meant s))
 
--- What is answered is what the grounds say.
-pub judged : (s : List ℕ) → Judged s (saidOf (reading s))
-judged s = go (badLength (length s)) refl
+-- What is answered of a text is what its grounds say, and nothing else.
+pub text-decides : (s : List ℕ) → Decides (TextSays s) (answerOf (reading s))
+text-decides s = go (badLength (length s)) refl
   where
-    go : (t : Bool) → badLength (length s) ≡ t → Judged s (saidOf (reading s))
-    go true h = subst (λ (x : Reading). Judged s (saidOf x)) (sym (read-length s h)) (ground1 h)
+    go : (t : Bool) → badLength (length s) ≡ t → Decided s (reading s)
+    go true h = rw (read-length s h) (stops (length-given s h))
     go false h = ⊎-elim
-        (λ u. subst (λ (x : Reading). Judged s (saidOf x)) (sym (read-unknown s h (firstRefused s) refl u)) (ground2 h (refused-first s u)))
-        (judged-known s h)
+        (λ u. rw (read-unknown s h (firstRefused s) refl u) (goes-on (length-passed s h) (stops (ground-first UnknownByte ByteInQ (refused-first s u)))))
+        (known-decides s h)
         (lt-or-le (firstRefused s) (length s))
-
-first-one : (P : ℕ → Type 0) {j k : ℕ} → First P j → First P k → j ≡ k
-first-one P {j} {k} a b = ⊎-elim
-    (λ h. absurd (b .first j h (a .holds)))
-    (λ h. ⊎-elim (λ l. absurd (a .first k l (b .holds))) (λ l. omega arith) (lt-or-le k j))
-    (lt-or-le j k)
-
--- The grounds say just one answer.
-pub judged-one : {s : List ℕ} {x y : Said} → Judged s x → Judged s y → x ≡ y
-judged-one (ground1 a) (ground1 b) = refl
-judged-one (ground1 a) (ground2 b c) = absurd (true≢false (sym a ∙ b))
-judged-one (ground1 a) (ground3 b c d) = absurd (true≢false (sym a ∙ b))
-judged-one (ground1 a) (ground4 b c d e) = absurd (true≢false (sym a ∙ b))
-judged-one (ground1 a) (structure r b c d e f g) = absurd (true≢false (sym a ∙ b))
-judged-one (ground2 a p) (ground1 b) = absurd (true≢false (sym b ∙ a))
-judged-one {s} (ground2 a p) (ground2 b q) = ap (λ (k : ℕ). Said.refused 2 (ByteInQ k)) (first-one (UnknownByteAt s) p q)
-judged-one (ground2 a p) (ground3 b c d) = absurd (c _ (p .holds))
-judged-one (ground2 a p) (ground4 b c d e) = absurd (c _ (p .holds))
-judged-one (ground2 a p) (structure r b c d e f g) = absurd (c _ (p .holds))
-judged-one (ground3 a n p) (ground1 b) = absurd (true≢false (sym b ∙ a))
-judged-one (ground3 a n p) (ground2 b q) = absurd (n _ (q .holds))
-judged-one {s} (ground3 a n p) (ground3 b m q) = ap (λ (k : ℕ). Said.refused 3 (ByteInQ k)) (first-one (ClosesNothingAt s) p q)
-judged-one (ground3 a n p) (ground4 b c d e) = absurd (d _ (p .holds))
-judged-one (ground3 a n p) (structure r b c d e f g) = absurd (d _ (p .holds))
-judged-one (ground4 a n m p) (ground1 b) = absurd (true≢false (sym b ∙ a))
-judged-one (ground4 a n m p) (ground2 b q) = absurd (n _ (q .holds))
-judged-one (ground4 a n m p) (ground3 b c q) = absurd (m _ (q .holds))
-judged-one {s} (ground4 a n m p) (ground4 b c d q) = ap (λ (k : ℕ). Said.refused 4 (ByteInQ k)) (first-one (NeverClosedAt s) p q)
-judged-one (ground4 a n m p) (structure r b c d e f g) = absurd (e _ (p .holds))
-judged-one (structure r a n m o v e) (ground1 b) = absurd (true≢false (sym b ∙ a))
-judged-one (structure r a n m o v e) (ground2 b q) = absurd (n _ (q .holds))
-judged-one (structure r a n m o v e) (ground3 b c q) = absurd (m _ (q .holds))
-judged-one (structure r a n m o v e) (ground4 b c d q) = absurd (o _ (q .holds))
-judged-one (structure r a n m o v e) (structure q b c d f g h) = refl
-
--- Each ground is given if its condition holds and no earlier one's does, and never otherwise.
-pub decided : (s : List ℕ) {x : Said} → Judged s x → x ≡ saidOf (reading s)
-decided s j = judged-one j (judged s)
 
 -- The text of every run that is not empty and not too long is accepted with that run.
 spell-known : (r : Run) → Meant r → length (spell r) ≤ firstRefused (spell r)
@@ -153,23 +133,28 @@ spell-known r m = ⊎-elim
 
 pub read-accepts : (r : Run) → Meant r → badLength (length (spell r)) ≡ false → reading (spell r) ≡ accepted r
 read-accepts r m fits =
-    stops (spell r) fits (spell-known r m)
+    reads (spell r) fits (spell-known r m)
     ∙ ap (λ (x : Runs). stopped (spell r) (first x)) (read-spell r m)
     ∙ stopped-end (spell r) fits (spell-known r m) r refl
 
 -- A text is accepted with a run exactly if that run spells it, and its length is none that ground 1 turns down.
-accepted-is : (s : List ℕ) {x : Said} → Judged s x → (r : Run) → x ≡ Said.accepted → reading s ≡ accepted r → (s ≡ spell r) × Meant r × (badLength (length s) ≡ false)
-accepted-is s (ground1 a) r e f = clash (cc)
-accepted-is s (ground2 a b) r e f = clash (cc)
-accepted-is s (ground3 a b c) r e f = clash (cc)
-accepted-is s (ground4 a b c d) r e f = clash (cc)
-accepted-is s (structure q a b c d m g) r e f =
-    let h : reading s ≡ accepted q = ap reading g ∙ read-accepts q m (subst (λ (l : List ℕ). badLength (length l) ≡ false) g a) in
-    let k : q ≡ r = cc in
-    (g ∙ ap spell k, subst Meant k m, a)
+module _ (s : List ℕ) (r : Run) (e : reading s ≡ accepted r) where
+  spelled-by : badLength (length s) ≡ false → length s ≤ firstRefused s → (t : List ℕ) → s ≡ spell (first (runs s)) ++ t → (s ≡ spell r) × Meant r
+  spelled-by fits known [] f =
+      let whole : s ≡ spell (first (runs s)) = f ∙ append-nil (spell (first (runs s))) in
+      let same : first (runs s) ≡ r = cc (reads s fits known, stopped-end s fits known (first (runs s)) whole) in
+      (whole ∙ ap spell same, subst Meant same (first-meant s))
+  spelled-by fits known (c ∷ t) f = let g = stopped-at s fits known (first (runs s)) c t f (meaningOf c) refl in clash (cc (reads s fits known))
 
-pub accepted-spell : (s : List ℕ) (r : Run) → reading s ≡ accepted r → (s ≡ spell r) × Meant r × (badLength (length s) ≡ false)
-accepted-spell s r e = accepted-is s (judged s) r (ap saidOf e) e
+  pub accepted-spell : (s ≡ spell r) × Meant r × (badLength (length s) ≡ false)
+  accepted-spell = go (badLength (length s)) refl
+    where
+      go : (b : Bool) → badLength (length s) ≡ b → (s ≡ spell r) × Meant r × (badLength (length s) ≡ false)
+      go true h = clash (cc (read-length s h))
+      go false h = ⊎-elim
+          (λ u. clash (cc (read-unknown s h (firstRefused s) refl u)))
+          (λ u. let w = begins s (runs s) (splits s) in let v = spelled-by h u (w .0) (w .1) in (v .0, v .1, h))
+          (lt-or-le (firstRefused s) (length s))
 
 pub accepted-exactly : (s : List ℕ) (r : Run) → (reading s ≡ accepted r) ↔ ((s ≡ spell r) × Meant r × (badLength (length s) ≡ false))
 accepted-exactly s r = (

@@ -1,4 +1,4 @@
--- What is built of a tree by reading one item or one run more, in each case of the code. Assumes nothing.
+-- What is built of a tree by reading one item or one run more, in each case of the code.
 use mathlib.Core.Path.{_≡_, refl, sym, ap, ap₂, subst, _∙_}
 use mathlib.Core.Bool.{true, false, true≢false, false≢true}
 use mathlib.Core.Logic.{_⊎_, ⊎-elim, inl, inr}
@@ -17,7 +17,8 @@ use Rattle.tree.specs.Building.{runAt, itemOf, Ready, Grown, OpensAt, Ru
 use Rattle.tree.specs.declared.character.Meaning.{Meaning}
 use Rattle.tree.specs.declared.character.Meaning.the-variants.{Unpaired, Opening, Closing, Refused}
 use Rattle.tree.specs.declared.run.Reached.{Reached}
-use Rattle.tree.proofs.Meanings.{tag, clash}
+use Rattle.answer.proofs.Denied.{clash}
+use Rattle.tree.proofs.Meanings.{tag}
 use Rattle.tree.proofs.Leaves.{lt-or-le, length-lefts}
 use Rattle.tree.proofs.Splits.{splits, first-fits, item-fits, size-spell, ended, ended-closing, ended-other, onto-open, closer, onto-pair, restOf, rest-read}
 

@@ -1,4 +1,4 @@
--- What the arm of a match for several meanings knows, from the numbers of the variants. Assumes nothing.
+-- What the arm of a match for several meanings knows, from the numbers of the variants.
 use mathlib.Core.Path.{_≡_, refl}
 use mathlib.Core.Bool.{false}
 use mathlib.Core.Logic.{_⊎_, ⊎-elim, inl, inr}
@@ -24,7 +24,3 @@ closing-or-refused Unpaired h = ⊎-elim (λ x. absurd (omega arith)) (λ x. abs
 closing-or-refused Opening h = ⊎-elim (λ x. absurd (omega arith)) (λ x. absurd (omega arith)) h
 closing-or-refused Closing h = inl refl
 closing-or-refused Refused h = inr refl
-
--- Two variants are never equal: `cc` shows that 0 would be 1.
-pub clash : {A : Type 0} → _≡_ {A = ℕ} 0 1 → A
-clash e = absurd (omega arith)

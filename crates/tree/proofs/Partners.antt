@@ -1,4 +1,4 @@
--- Which brackets of a text have a partner. Assumes nothing.
+-- Which brackets of a text have a partner.
 use mathlib.Core.Path.{_≡_, refl, sym, ap, ap₂, subst, _∙_}
 use mathlib.Core.Bool.{true, false, true≢false, false≢true}
 use mathlib.Core.Logic.{_⊎_, inl, inr, ⊎-elim}
@@ -13,7 +13,7 @@ use Rattle.tree.specs.Reading.Runs.{last, more}
 use Rattle.tree.specs.Grounds.{Closes, Closed}
 use Rattle.tree.specs.declared.character.Meaning.{Meaning}
 use Rattle.tree.specs.declared.character.Meaning.the-variants.{Unpaired, Opening, Closing, Refused}
-use Rattle.tree.proofs.Meanings.{clash}
+use Rattle.answer.proofs.Denied.{clash}
 use Rattle.tree.proofs.FirstRefused.{Clean, clean-back}
 use Rattle.tree.proofs.Splits.{Splits, splits, ended}
 use Rattle.tree.proofs.Spelling.{read-back, read-spell, first-meant, before}

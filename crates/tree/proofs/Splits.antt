@@ -1,4 +1,4 @@
--- A text splits into runs, and the run that it begins with is read item by item. Assumes nothing.
+-- A text splits into runs, and the run that it begins with is read item by item.
 use mathlib.Core.Path.{_≡_, refl, sym, ap, ap₂, _∙_}
 use mathlib.Core.Bool.{Bool, true, false, true≢false, false≢true}
 use Prim.Native.Nat.{ℕ, _≤_, _<_}
@@ -44,7 +44,7 @@ splits [] = ([], refl, none)
 splits (c ∷ s) = splits-onto c s (meaningOf c) refl (runs s) refl (splits s)
 
 -- A text begins with the run that is read from it.
-begins : (s : List ℕ) (rs : Runs) → Splits rs s → (t : List ℕ) × (s ≡ spell (first rs) ++ t)
+pub begins : (s : List ℕ) (rs : Runs) → Splits rs s → (t : List ℕ) × (s ≡ spell (first rs) ++ t)
 begins s (last r) w = (w .0, w .1)
 begins s (more r c rs) w = (c ∷ w .0, w .1)
 

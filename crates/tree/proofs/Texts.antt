@@ -1,4 +1,4 @@
--- What reading a whole text answers, in each case of the code. Assumes nothing.
+-- What reading a whole text answers, in each case of the code.
 use mathlib.Core.Path.{_≡_, refl, sym, ap, _∙_}
 use mathlib.Core.Bool.{true, false}
 use mathlib.Core.Logic.{_⊎_, ⊎-elim}
@@ -20,7 +20,8 @@ use Rattle.tree.specs.declared.character.Meaning.{Meaning}
 use Rattle.tree.specs.declared.character.Meaning.the-variants.{Unpaired, Opening, Closing, Refused}
 use Rattle.tree.specs.declared.run.Reached.{Reached}
 use Rattle.tree.specs.declared.TreeRead.{TreeRead}
-use Rattle.tree.proofs.Meanings.{tag, clash}
+use Rattle.answer.proofs.Denied.{clash}
+use Rattle.tree.proofs.Meanings.{tag}
 use Rattle.tree.proofs.Leaves.{length-lefts}
 use Rattle.tree.proofs.Lengths.{length-few}
 use Rattle.tree.proofs.Splits.{first-fits, size-spell}

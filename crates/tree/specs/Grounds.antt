@@ -1,17 +1,21 @@
--- Grounds 1 to 4 (document 01), said of the bytes of a text, and what an answer must say by them. Assumes nothing.
+-- Grounds 1 to 4 (document 01), said of the bytes of a text, and what an answer must say by them.
 use mathlib.Core.Path.{_≡_}
-use mathlib.Core.Bool.{true, false}
+use mathlib.Core.Logic.{_⊎_}
 use Prim.Native.Nat.{ℕ, _<_}
 use mathlib.Core.List.{List, _∷_, _++_}
 use lib.ListN.{length}
 use Rattle.answer.specs.Answer.{Said}
-use Rattle.answer.specs.Answer.Said.{accepted, refused}
+use Rattle.answer.specs.Grounds.{GivenIf, GivenFirst, _then_}
 use Rattle.answer.specs.declared.Place.the-variants.{ByteInQ}
 use Rattle.tree.specs.Run.{Run, spell}
-use Rattle.tree.specs.Reading.{meaningOf, Meant, badLength}
+use Rattle.tree.specs.Reading.{meaningOf, Meant}
 use Rattle.tree.specs.declared.character.Meaning.the-variants.{Opening, Closing, Refused}
 
--- The byte at k has no meaning.
+-- The length is 0 or above 255.
+abbrev pub LengthRefused : List ℕ → Type 0
+LengthRefused s = (length s ≡ 0) ⊎ (255 < length s)
+
+-- The byte at k is not dot, "(" or ")".
 pub record UnknownByteAt (s : List ℕ) (k : ℕ) : Type 0 where
   pub front : List ℕ
   pub byte : ℕ
@@ -38,7 +42,7 @@ pub record Closed (q : List ℕ) : Type 0 where
   pub closes : meaningOf byte ≡ Closing
   pub meant : Meant run
 
--- The byte at k is a closing one that closes nothing.
+-- The byte at k is a ")" that closes nothing.
 pub record ClosesNothingAt (s : List ℕ) (k : ℕ) : Type 0 where
   pub front : List ℕ
   pub byte : ℕ
@@ -48,7 +52,7 @@ pub record ClosesNothingAt (s : List ℕ) (k : ℕ) : Type 0 where
   pub closing : meaningOf byte ≡ Closing
   pub unopened : Closes front → ⊥
 
--- The byte at k is an opening one that is never closed.
+-- The byte at k is a "(" that is never closed.
 pub record NeverClosedAt (s : List ℕ) (k : ℕ) : Type 0 where
   pub front : List ℕ
   pub byte : ℕ
@@ -58,18 +62,10 @@ pub record NeverClosedAt (s : List ℕ) (k : ℕ) : Type 0 where
   pub opening : meaningOf byte ≡ Opening
   pub unclosed : Closed back → ⊥
 
--- k is the first place at which P holds.
-pub record First (P : ℕ → Type 0) (k : ℕ) : Type 0 where
-  pub holds : P k
-  pub first : (j : ℕ) → j < k → P j → ⊥
-
-abbrev pub Never : (ℕ → Type 0) → Type 0
-Never P = (k : ℕ) → P k → ⊥
-
--- What is to be said of a text: the lowest ground that holds of it, at the first byte at which it does, or that some run spells it.
-pub data Judged (s : List ℕ) : Said → Type 0 where
-  ground1 : badLength (length s) ≡ true → Judged s (refused 1 (ByteInQ 0))
-  ground2 : {k : ℕ} → badLength (length s) ≡ false → First (UnknownByteAt s) k → Judged s (refused 2 (ByteInQ k))
-  ground3 : {k : ℕ} → badLength (length s) ≡ false → Never (UnknownByteAt s) → First (ClosesNothingAt s) k → Judged s (refused 3 (ByteInQ k))
-  ground4 : {k : ℕ} → badLength (length s) ≡ false → Never (UnknownByteAt s) → Never (ClosesNothingAt s) → First (NeverClosedAt s) k → Judged s (refused 4 (ByteInQ k))
-  structure : (r : Run) → badLength (length s) ≡ false → Never (UnknownByteAt s) → Never (ClosesNothingAt s) → Never (NeverClosedAt s) → Meant r → s ≡ spell r → Judged s accepted
+-- What is said of a text, which a call on it alone names Q: grounds 2, 3 and 4 give the first such byte.
+abbrev pub TextSays : List ℕ → Said → Type 0
+TextSays s =
+    GivenIf (LengthRefused s) 1 (ByteInQ 0)
+    then GivenFirst (UnknownByteAt s) 2 ByteInQ
+    then GivenFirst (ClosesNothingAt s) 3 ByteInQ
+    then GivenFirst (NeverClosedAt s) 4 ByteInQ

@@ -46,10 +46,7 @@ fn refused(ground: Ground, at: usize) -> TreeRead
     ensures { λ r. ⌜ r ≡ readOf (Reading.refused ground at) ⌝ }
 {
     TreeRead {
-        answer: Answer::Refused {
-            ground,
-            place: Place::ByteInQ(at),
-        },
+        answer: answer::refused(ground, Place::ByteInQ(at)),
         tree: single_tree(),
     }
 }

@@ -1,4 +1,4 @@
--- `answer::number` meets its contract: each arm knows which ground it has. Assumes nothing.
+-- `answer::number` meets its contract: each arm knows which ground it has.
 use mathlib.Core.Path.{sym, ap}
 use Rattle.answer.specs.Answer.{numberOf}
 use borrow.Author.Needs.{needs}
