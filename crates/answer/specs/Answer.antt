@@ -76,3 +76,7 @@ unless (Refused g p) later = Refused g p
 abbrev pub decide : {A : Type 0} → Answer → A → A → A
 decide Accepted x y = x
 decide (Refused g p) x y = y
+
+-- Whether the call is accepted.
+abbrev pub isAccepted : Answer → Bool
+isAccepted answer = decide answer true false

@@ -1,10 +1,10 @@
 -- A session after an opening, and after a rescoring, a withdrawal, a bringing back or an add that was accepted or refused.
 use mathlib.Core.Path.{_≡_, refl, sym, ap, _∙_}
-use mathlib.Core.Bool.{Bool, true}
+use mathlib.Core.Bool.{Bool, true, false}
 use mathlib.Core.List.{List, [], _∷_, _++_}
 use Prim.Native.Nat.{ℕ, _+_, _-_, _≤_, _<_}
 use native.Mathlib.Omega.{arith}
-use lib.ListN.{length, getD, set, length-append}
+use lib.ListN.{length, set, length-append}
 use lib.IntN.{ℤ}
 use Rattle.answer.specs.Answer.{unless}
 use Rattle.answer.specs.declared.Ground.{Ground}
@@ -14,14 +14,15 @@ use Rattle.answer.specs.declared.Answer.the-variants.{Accepted, Refused}
 use Rattle.answer.proofs.Given.{not-refused}
 use Rattle.tree.specs.declared.Tree.{Tree}
 use Rattle.seed.specs.declared.Pair.{Pair}
-use Rattle.table.specs.Rows.{Row, newRow, noRow, rowOf, withRow, withScore, withPresence}
+use Rattle.table.specs.Rows.{Row, newRow, rowIn, rowOf, withRow, withScore, withPresence}
 use Rattle.table.specs.Table.{rowsOf, Kept, HasRows}
 use Rattle.table.specs.declared.Table.{Table}
 use Rattle.table.proofs.Tables.{rows-length}
 use Rattle.table.proofs.Held.{kept-set}
-use Rattle.adding.specs.Adding.{nextAnswer, Grows}
+use Rattle.adding.specs.Adding.{Grows}
 use Rattle.chain.specs.Opening.{startWith}
-use Rattle.chain.specs.State.{State, decide, changed, countAnswer, rescoreAnswer, rescore, moveAnswer, moveTo, addAnswer, add, numberGiven}
+use Rattle.chain.specs.State.{State, changed, countAnswer}
+use Rattle.chain.specs.Acts.{Act, add, rescore, moving, moveAnswer, grounds, after, step, numberGiven}
 use Rattle.chain.specs.View.{view, Sound, Does}
 use Rattle.chain.specs.declared.Session.{Session}
 use Rattle.chain.proofs.Judges.{Rescorable, rescorable, Movable, movable, count-room}
@@ -34,69 +35,82 @@ pub session-opened : (q t : Tree) (table : Table) → Kept q t table → (view (
 session-opened q t table h = (rw (rows-length table), record { kept = h; few = omega (arith, h .laid .few) })
 
 -- What a call does, by its answer.
-does-refused : (s : Session) (a b : Answer) (g : Ground) (p : Place) (next : State) → Sound s → a ≡ b → a ≡ Refused g p → Does s (decide b (view s) next) a s
-does-refused s a b g p next h e f = rw (sym e ∙ f) (record { answers = f; leaves = refl; sound = h; refused = λ n. refl })
+does-refused : (s : Session) (act : Act) (a : Answer) (g : Ground) (p : Place) → Sound s → a ≡ grounds (view s) act → a ≡ Refused g p → Does s act a s
+does-refused s act a g p h e f =
+    record { answers = e; leaves = sym (ap (step (view s) act) f); sound = h; refused = λ n. refl }
 
-does-accepted : (s r : Session) (a b : Answer) (next : State) → a ≡ b → a ≡ Accepted → view r ≡ next → Sound r → Does s (decide b (view s) next) a r
-does-accepted s r a b next e f v h = rw (sym e ∙ f) (record { answers = f; leaves = v; sound = h; refused = λ n. absurd (n f) })
+does-accepted : (s r : Session) (act : Act) (a : Answer) → a ≡ grounds (view s) act → a ≡ Accepted → view r ≡ after act (view s) → Sound r → Does s act a r
+does-accepted s r act a e f v h =
+    record { answers = e; leaves = v ∙ sym (ap (step (view s) act) f); sound = h; refused = λ n. absurd (n f) }
 
 -- Another score for number k.
-module _ (s : Session) (k : ℕ) (z : ℤ) (h : Sound s) {a : Answer} (e : a ≡ rescoreAnswer (view s) k z) where
-  pub rescores-not : {g : Ground} {p : Place} → a ≡ Refused g p → Does s (rescore (view s) k z) a s
-  unfolding rescore
-  rescores-not {g} {p} f = does-refused s a _ g p _ h e f
+module _ (s : Session) (k : ℕ) (z : ℤ) (h : Sound s) {a : Answer} (e : a ≡ grounds (view s) (rescore k z)) where
+  pub rescores-not : {g : Ground} {p : Place} → a ≡ Refused g p → Does s (rescore k z) a s
+  rescores-not {g} {p} f = does-refused s (rescore k z) a g p h e f
 
   module _ (ok : a ≡ Accepted) where
     pub score-known : Rescorable (view s) k z
     score-known = rescorable (view s) k z (sym e ∙ ok)
 
     abbrev row-scored : Row
-    row-scored = withScore (getD (rowsOf (s .table)) (k - 1) noRow) z
+    row-scored = withScore (rowIn (rowsOf (s .table)) (k - 1)) z
 
-    module _ {next : Table} (n : HasRows (set (rowsOf (s .table)) (k - 1) (withScore (getD (rowsOf (s .table)) (k - 1) noRow) z)) next) where
+    module _ {next : Table} (n : HasRows (set (rowsOf (s .table)) (k - 1) (withScore (rowIn (rowsOf (s .table)) (k - 1)) z)) next) where
       pub score-room : (Kept (s .q) (s .t) next) × (s .changes < 1000000)
       score-room = (
         kept-set (s .q) (s .t) (s .table) next (k - 1) row-scored (h .kept) n (λ l. record { seed = h .kept .each (k - 1) l .seed; ranged = score-known .ranged }),
         score-known .room,
       )
 
-      pub rescores : {r : Session} → (view r ≡ changed (view s) (rowsOf next)) × Sound r → Does s (rescore (view s) k z) a r
-      unfolding rescore withRow rowOf
-      rescores {r} w = does-accepted s r a _ _ e ok (w .0 ∙ ap (changed (view s)) (n .is)) (w .1)
+      pub rescores : {r : Session} → (view r ≡ changed (view s) (rowsOf next)) × Sound r → Does s (rescore k z) a r
+      unfolding withRow rowOf
+      rescores {r} w = does-accepted s r (rescore k z) a e ok (w .0 ∙ ap (changed (view s)) (n .is)) (w .1)
 
 -- Another presence for number k.
+by-moving : (s : State) (k : ℕ) (to : Bool) → moveAnswer s k to ≡ grounds s (moving k to)
+unfolding grounds
+by-moving s k true = refl
+by-moving s k false = refl
+
+after-moving : (s : State) (k : ℕ) (to : Bool) → changed s (withRow (s .rows) k (withPresence (rowOf (s .rows) k) to)) ≡ after (moving k to) s
+after-moving s k true = refl
+after-moving s k false = refl
+
 module _ (s : Session) (k : ℕ) (to : Bool) (h : Sound s) {a : Answer} (e : a ≡ moveAnswer (view s) k to) where
-  pub moves-not : {g : Ground} {p : Place} → a ≡ Refused g p → Does s (moveTo (view s) k to) a s
-  unfolding moveTo
-  moves-not {g} {p} f = does-refused s a _ g p _ h e f
+  pub moves-not : {g : Ground} {p : Place} → a ≡ Refused g p → Does s (moving k to) a s
+  moves-not {g} {p} f = does-refused s (moving k to) a g p h (e ∙ by-moving (view s) k to) f
 
   module _ (ok : a ≡ Accepted) where
     pub move-known : Movable (view s) k
     move-known = movable (view s) k to (sym e ∙ ok)
 
     abbrev row-moved : Row
-    row-moved = withPresence (getD (rowsOf (s .table)) (k - 1) noRow) to
+    row-moved = withPresence (rowIn (rowsOf (s .table)) (k - 1)) to
 
-    module _ {next : Table} (n : HasRows (set (rowsOf (s .table)) (k - 1) (withPresence (getD (rowsOf (s .table)) (k - 1) noRow) to)) next) where
+    module _ {next : Table} (n : HasRows (set (rowsOf (s .table)) (k - 1) (withPresence (rowIn (rowsOf (s .table)) (k - 1)) to)) next) where
       pub move-room : (Kept (s .q) (s .t) next) × (s .changes < 1000000)
       move-room = (
         kept-set (s .q) (s .t) (s .table) next (k - 1) row-moved (h .kept) n (λ l. record { seed = h .kept .each (k - 1) l .seed; ranged = h .kept .each (k - 1) l .ranged }),
         move-known .room,
       )
 
-      pub moves : {r : Session} → (view r ≡ changed (view s) (rowsOf next)) × Sound r → Does s (moveTo (view s) k to) a r
-      unfolding moveTo withRow rowOf
-      moves {r} w = does-accepted s r a _ _ e ok (w .0 ∙ ap (changed (view s)) (n .is)) (w .1)
+      rows-moved : rowsOf next ≡ withRow (rowsOf (s .table)) k (withPresence (rowOf (rowsOf (s .table)) k) to)
+      unfolding withRow rowOf
+      rows-moved = n .is
+
+      pub moves : {r : Session} → (view r ≡ changed (view s) (rowsOf next)) × Sound r → Does s (moving k to) a r
+      moves {r} w =
+          does-accepted s r (moving k to) a (e ∙ by-moving (view s) k to) ok
+          (w .0 ∙ ap (changed (view s)) rows-moved ∙ after-moving (view s) k to) (w .1)
 
 -- One seed more.
 module _ (s : Session) (ps : List Pair) (z : ℤ) (h : Sound s) {b : Answer} {next : Table} (g : Grows (s .q) (s .t) (s .table) ps z b next) {a : Answer} (e : a ≡ unless b (countAnswer (s .changes))) where
-  is-add : a ≡ addAnswer (view s) ps z
-  unfolding addAnswer
+  is-add : a ≡ grounds (view s) (add ps z)
+  unfolding grounds
   is-add = e ∙ ap (λ (x : Answer). unless x (countAnswer (s .changes))) (g .answers)
 
-  pub adds-not : {x : Ground} {p : Place} → a ≡ Refused x p → Does s (add (view s) ps z) a s
-  unfolding add
-  adds-not {x} {p} f = does-refused s a _ x p _ h is-add f
+  pub adds-not : {x : Ground} {p : Place} → a ≡ Refused x p → Does s (add ps z) a s
+  adds-not {x} {p} f = does-refused s (add ps z) a x p h is-add f
 
   module _ (ok : a ≡ Accepted) where
     judged : (b ≡ Accepted) × (countAnswer (s .changes) ≡ Accepted)
@@ -108,9 +122,8 @@ module _ (s : Session) (ps : List Pair) (z : ℤ) (h : Sound s) {b : Answer} {ne
     rows : rowsOf next ≡ rowsOf (s .table) ++ newRow ps z ∷ []
     rows = g .accepted (judged .0)
 
-    pub adds : {r : Session} → (view r ≡ changed (view s) (rowsOf next)) × Sound r → Does s (add (view s) ps z) a r × (next .seeds ≡ numberGiven (view s) a)
-    unfolding add
+    pub adds : {r : Session} → (view r ≡ changed (view s) (rowsOf next)) × Sound r → Does s (add ps z) a r × (next .seeds ≡ numberGiven (view s) a)
     adds {r} w = (
-      does-accepted s r a _ _ is-add ok (w .0 ∙ ap (changed (view s)) rows) (w .1),
+      does-accepted s r (add ps z) a is-add ok (w .0 ∙ ap (changed (view s)) rows) (w .1),
       sym (rows-length next) ∙ ap length rows ∙ length-append (rowsOf (s .table)) (newRow ps z ∷ []) ∙ ap (numberGiven (view s)) (sym ok),
     )

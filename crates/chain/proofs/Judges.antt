@@ -11,7 +11,8 @@ use Rattle.answer.proofs.Given.{not-given}
 use Rattle.answer.specs.declared.Answer.the-variants.{Accepted}
 use Rattle.table.specs.Rows.{Row, noRow, givenOut, rowOf, summaryOf, inRange}
 use Rattle.table.specs.declared.Summary.{Summary}
-use Rattle.chain.specs.State.{State, countAnswer, rescoreAnswer, moveAnswer}
+use Rattle.chain.specs.State.{State, countAnswer}
+use Rattle.chain.specs.Acts.{grounds, moveAnswer, rescore}
 
 pub beq-true : (b : Bool) → b ≡ Bool·beq true b
 beq-true true = refl
@@ -46,8 +47,8 @@ pub record Rescorable (s : State) (k : ℕ) (z : ℤ) : Type 0 where
   pub ranged : inRange z ≡ true
   pub room : s .changes < 1000000
 
-pub rescorable : (s : State) (k : ℕ) (z : ℤ) → rescoreAnswer s k z ≡ Accepted → Rescorable s k z
-unfolding rescoreAnswer
+pub rescorable : (s : State) (k : ℕ) (z : ℤ) → grounds s (rescore k z) ≡ Accepted → Rescorable s k z
+unfolding grounds
 rescorable s k z e =
     let a = not-given _ _ _ _ e in
     let b = not-given _ _ _ _ (a .1) in
@@ -58,7 +59,6 @@ pub record Movable (s : State) (k : ℕ) : Type 0 where
   pub room : s .changes < 1000000
 
 pub movable : (s : State) (k : ℕ) (to : Bool) → moveAnswer s k to ≡ Accepted → Movable s k
-unfolding moveAnswer
 movable s k to e =
     let a = not-given _ _ _ _ e in
     record { number = given-out (length (s .rows)) k (a .0); room = count-room (s .changes) (not-given (Bool·beq (rowOf (s .rows) k .present) to) _ _ _ (a .1) .1) }

@@ -11,6 +11,7 @@ ghost use Prim.Native.Nat.{_<_};
 ghost use Rattle.table.specs.Table.{rowsOf, Kept};
 ghost use Rattle.chain.specs.Opening.{startWith};
 ghost use Rattle.chain.specs.State as state;
+ghost use Rattle.chain.specs.Acts.{moving};
 ghost use Rattle.chain.specs.View.{view, Sound, Does};
 
 // The session on two trees with the seeds of a table, which count as adds.
@@ -40,7 +41,7 @@ pub fn changed(s: Session, table: Table) -> Session
 // Makes the seed present or withdrawn.
 pub fn move_to(s: Session, number: usize, to: bool) -> Changed
     requires { ⌜ Sound s ⌝ }
-    ensures { λ r. ⌜ Does s (state.moveTo (view s) number to) (r .answer) (r .session) ⌝ }
+    ensures { λ r. ⌜ Does s (moving number to) (r .answer) (r .session) ⌝ }
 {
     let answer = judge_move(s, number, to);
     match answer {

@@ -9,7 +9,8 @@ ghost use mathlib.Core.Path.{_≡_};
 ghost use mathlib.Core.Bool.{Bool·beq};
 ghost use Rattle.answer.specs.Answer.{unless};
 ghost use Rattle.table.specs.Rows.{givenOut};
-ghost use Rattle.chain.specs.State.{countAnswer, rescoreAnswer, moveAnswer};
+ghost use Rattle.chain.specs.State.{countAnswer};
+ghost use Rattle.chain.specs.Acts.{grounds, moveAnswer, rescore};
 ghost use Rattle.chain.specs.View.{view, Sound};
 
 // Whether the number is one of 1 to seeds.
@@ -53,7 +54,7 @@ pub fn counted(earlier: Answer, changes: usize) -> Answer
 
 // Grounds 9, 11 and 20.
 pub fn judge_rescore(s: Session, number: usize, score: i32) -> Answer
-    ensures { λ r. ⌜ r ≡ rescoreAnswer (view s) number score ⌝ }
+    ensures { λ r. ⌜ r ≡ grounds (view s) (rescore number score) ⌝ }
 {
     if !given_out(s.table.seeds, number) {
         return Answer::Refused {

@@ -25,11 +25,9 @@ use table::summary_at;
 use tree::Tree;
 ghost use mathlib.Core.Path.{_≡_};
 ghost use Rattle.seed.specs.Pairs.{pairsOf};
-ghost use Rattle.table.specs.Rows.{presentRows};
-ghost use Rattle.plain.specs.Plain.{Writes};
 ghost use Rattle.chain.specs.Opening.{opening, deckOpening, Opens};
-ghost use Rattle.chain.specs.State.{add, numberGiven, rescore, withdraw, bringBack};
-ghost use Rattle.chain.specs.Looking.{shownOf, Chains, Lists};
+ghost use Rattle.chain.specs.Acts.{add, rescore, withdraw, bringBack, numberGiven};
+ghost use Rattle.chain.specs.Looking.{shownOf, Chains, Lists, Writes};
 ghost use Rattle.chain.specs.View.{view, Sound, Does};
 
 pub struct Session {
@@ -91,7 +89,7 @@ impl Session {
     // Adds the seed of these q and t, as far as both lists go, and answers its number, or 0 beside a refusal.
     pub fn added(self, qs: &[u8], ts: &[u8], score: i32) -> Added
         requires { ⌜ Sound self ⌝ }
-        ensures does { λ r. ⌜ Does self (add (view self) (pairsOf (now (qs .entry)) (now (ts .entry))) score) (r .answer) (r .session) ⌝ }
+        ensures does { λ r. ⌜ Does self (add (pairsOf (now (qs .entry)) (now (ts .entry))) score) (r .answer) (r .session) ⌝ }
         ensures number { λ r. ⌜ r .number ≡ numberGiven (view self) (r .answer) ⌝ }
     {
         let grown = with_seed(self.q, self.t, self.table, qs, ts, score);
@@ -120,7 +118,7 @@ impl Session {
     // Withdraws a present seed.
     pub fn withdrawn(self, number: usize) -> Changed
         requires { ⌜ Sound self ⌝ }
-        ensures { λ r. ⌜ Does self (withdraw (view self) number) (r .answer) (r .session) ⌝ }
+        ensures { λ r. ⌜ Does self (withdraw number) (r .answer) (r .session) ⌝ }
     {
         move_to(self, number, false)
     }
@@ -128,7 +126,7 @@ impl Session {
     // Makes a withdrawn seed present again.
     pub fn brought_back(self, number: usize) -> Changed
         requires { ⌜ Sound self ⌝ }
-        ensures { λ r. ⌜ Does self (bringBack (view self) number) (r .answer) (r .session) ⌝ }
+        ensures { λ r. ⌜ Does self (bringBack number) (r .answer) (r .session) ⌝ }
     {
         move_to(self, number, true)
     }
@@ -136,7 +134,7 @@ impl Session {
     // Gives the seed another score, present or not.
     pub fn rescored(self, number: usize, score: i32) -> Changed
         requires { ⌜ Sound self ⌝ }
-        ensures { λ r. ⌜ Does self (rescore (view self) number score) (r .answer) (r .session) ⌝ }
+        ensures { λ r. ⌜ Does self (rescore number score) (r .answer) (r .session) ⌝ }
     {
         let answer = judge_rescore(self, number, score);
         match answer {
@@ -182,7 +180,7 @@ impl Session {
     // The deck of the present seeds in plain form.
     pub fn write_deck(self, out: &mut [u8]) -> Written
         requires { ⌜ Sound self ⌝ }
-        ensures { λ r. ⌜ Writes (presentRows (view self .rows)) (now (out .entry)) (now (out .exit)) r ⌝ }
+        ensures { λ r. ⌜ Writes (view self) (now (out .entry)) (now (out .exit)) r ⌝ }
     {
         plain::write(self.table, out)
     }

@@ -31,7 +31,8 @@ use Rattle.plain.proofs.RoundTrip.{read-plain}
 use Rattle.dealing.specs.Texts.{bothRead}
 use Rattle.dealing.specs.Seeds.{seedsAnswer}
 use Rattle.dealing.specs.Deal.{deckAnswer, dealAnswer, dealOf}
-use Rattle.chain.specs.State.{countAnswer, addAnswer}
+use Rattle.chain.specs.State.{countAnswer}
+use Rattle.chain.specs.Acts.{add, grounds, deckOf}
 use Rattle.chain.specs.View.{view, Sound}
 use Rattle.chain.specs.Opening.{startWith, deckOpening}
 use Rattle.chain.specs.declared.Session.{Session}
@@ -98,8 +99,8 @@ module _ (s : Session) (h : Sound s) where
   tree-t = tree-nested (s .t) (h .kept .is-t)
 
   -- A list of pairs with a score is added exactly if the session takes it.
-  pub adds-exactly : (ps : List Pair) (z : ℤ) → (addAnswer (view s) ps z ≡ Accepted) ↔ Takes s ps z
-  unfolding addAnswer countAnswer
+  pub adds-exactly : (ps : List Pair) (z : ℤ) → (grounds (view s) (add ps z) ≡ Accepted) ↔ Takes s ps z
+  unfolding grounds countAnswer
   adds-exactly ps z = (known, λ w. rw (exactly .1 (w .addable), lt-leb 1000000 (s .changes) (w .room)))
     where
       exactly : (nextAnswer (leavesOf (s .q)) (leavesOf (s .t)) (rowsOf (s .table)) ps z ≡ Accepted) ↔ Addable (leavesOf (s .q)) (leavesOf (s .t)) (rowsOf (s .table)) ps z

@@ -17,13 +17,15 @@ use Rattle.seed.specs.AreaList.{side, level, fits, left, under, chainable, firs
 use Rattle.seed.specs.declared.Pair.{Pair}
 use Rattle.optimum.specs.Key.{inMask, empty, _⊕_, noBetter, better}
 use Rattle.optimum.specs.Best as optimum
-use Rattle.best.specs.Best.{keyOf, bestOf}
+use Rattle.best.specs.Best.{keyOf}
+use Rattle.best.specs.declared.Best.{Best}
 use Rattle.table.specs.Rows.{Row, givenOut, rowOf, withRow, pairCount, inRange}
 use Rattle.adding.specs.Adding.{limitAnswer, nextAnswer}
-use Rattle.chain.specs.State.{State, countAnswer, rescoreAnswer, rescore, moveAnswer, moveTo, withdraw, addAnswer, add}
+use Rattle.chain.specs.State.{State, countAnswer}
+use Rattle.chain.specs.Acts.{Act, add, rescore, withdraw, bestChain, grounds, step, areasOf}
 use Rattle.chain.specs.Opening.{opening}
 use Rattle.dealing.specs.Texts.{bothRead}
-use Rattle.chain.specs.Looking.{bestChain, areasOf}
+use Rattle.chain.specs.Looking.{bestBy, keyIn}
 
 -- A is `(.(.)).` and B is `(.)(.)`; A is Q and B is T.
 abbrev A : List ℕ
@@ -45,10 +47,14 @@ abbrev two : ℕ → ℕ → ℕ → ℕ → List Pair
 two q t u v = pair q t ∷ pair u v ∷ []
 
 abbrev adding : List Pair → Said
-adding ps = said (add opened ps (pos 0) .answer)
+adding ps = said (grounds opened (add ps (pos 0)))
+
+-- The state that a call leaves.
+abbrev doing : State → Act → State
+doing s act = step s act (grounds s act)
 
 with : State → List Pair → ℤ → State
-with s ps z = add s ps z .state
+with s ps z = doing s (add ps z)
 
 -- The total and the numbers of the best chain.
 abbrev numbers : ℕ → List Bool → List ℕ
@@ -56,8 +62,11 @@ numbers n [] = []
 numbers n (true ∷ bs) = n ∷ numbers (suc n) bs
 numbers n (false ∷ bs) = numbers (suc n) bs
 
+abbrev answered : State → Best
+answered s = bestBy (grounds s (bestChain 4096)) (keyIn s)
+
 abbrev chain : State → List ℕ
-chain s = bestChain s 4096 .total ∷ numbers 1 (bestChain s 4096 .chain)
+chain s = answered s .total ∷ numbers 1 (answered s .chain)
 
 abbrev holding : List Row → ℕ → State
 holding rows n = record { q = tree.treeOf (tree.first (tree.runs A)); t = tree.treeOf (tree.first (tree.runs B)); rows = rows; changes = n }
@@ -71,23 +80,23 @@ opened-is = refl
 
 -- The five seeds, one after another.
 first-added : with (holding ([]) 0) (one 2 1) (pos 3) ≡ holding (in-row (one 2 1) (pos 3) true ∷ []) 1
-unfolding with add addAnswer nextAnswer limitAnswer pairCount inRange countAnswer judgeOf every some everyBelow above inside nodeIn nodesIn risesFrom rises alikeAt alikeTo alike rootOf rooted spans children paired bordered leaf
+unfolding with grounds nextAnswer limitAnswer pairCount inRange countAnswer judgeOf every some everyBelow above inside nodeIn nodesIn risesFrom rises alikeAt alikeTo alike rootOf rooted spans children paired bordered leaf
 first-added = refl
 
 second-added : with (holding (in-row (one 2 1) (pos 3) true ∷ []) 1) (one 4 3) (pos 2) ≡ holding (in-row (one 2 1) (pos 3) true ∷ in-row (one 4 3) (pos 2) true ∷ []) 2
-unfolding with add addAnswer nextAnswer limitAnswer pairCount inRange countAnswer judgeOf every some everyBelow above inside nodeIn nodesIn risesFrom rises alikeAt alikeTo alike rootOf rooted spans children paired bordered leaf
+unfolding with grounds nextAnswer limitAnswer pairCount inRange countAnswer judgeOf every some everyBelow above inside nodeIn nodesIn risesFrom rises alikeAt alikeTo alike rootOf rooted spans children paired bordered leaf
 second-added = refl
 
 third-added : with (holding (in-row (one 2 1) (pos 3) true ∷ in-row (one 4 3) (pos 2) true ∷ []) 2) (one 1 0) (pos 1) ≡ holding (in-row (one 2 1) (pos 3) true ∷ in-row (one 4 3) (pos 2) true ∷ in-row (one 1 0) (pos 1) true ∷ []) 3
-unfolding with add addAnswer nextAnswer limitAnswer pairCount inRange countAnswer judgeOf every some everyBelow above inside nodeIn nodesIn risesFrom rises alikeAt alikeTo alike rootOf rooted spans children paired bordered leaf
+unfolding with grounds nextAnswer limitAnswer pairCount inRange countAnswer judgeOf every some everyBelow above inside nodeIn nodesIn risesFrom rises alikeAt alikeTo alike rootOf rooted spans children paired bordered leaf
 third-added = refl
 
 fourth-added : with (holding (in-row (one 2 1) (pos 3) true ∷ in-row (one 4 3) (pos 2) true ∷ in-row (one 1 0) (pos 1) true ∷ []) 3) (one 3 1) (pos 3) ≡ holding (in-row (one 2 1) (pos 3) true ∷ in-row (one 4 3) (pos 2) true ∷ in-row (one 1 0) (pos 1) true ∷ in-row (one 3 1) (pos 3) true ∷ []) 4
-unfolding with add addAnswer nextAnswer limitAnswer pairCount inRange countAnswer judgeOf every some everyBelow above inside nodeIn nodesIn risesFrom rises alikeAt alikeTo alike rootOf rooted spans children paired bordered leaf
+unfolding with grounds nextAnswer limitAnswer pairCount inRange countAnswer judgeOf every some everyBelow above inside nodeIn nodesIn risesFrom rises alikeAt alikeTo alike rootOf rooted spans children paired bordered leaf
 fourth-added = refl
 
 fifth-added : with (holding (in-row (one 2 1) (pos 3) true ∷ in-row (one 4 3) (pos 2) true ∷ in-row (one 1 0) (pos 1) true ∷ in-row (one 3 1) (pos 3) true ∷ []) 4) (one 0 2) (negsuc 0) ≡ holding (in-row (one 2 1) (pos 3) true ∷ in-row (one 4 3) (pos 2) true ∷ in-row (one 1 0) (pos 1) true ∷ in-row (one 3 1) (pos 3) true ∷ in-row (one 0 2) (negsuc 0) true ∷ []) 5
-unfolding with add addAnswer nextAnswer limitAnswer pairCount inRange countAnswer judgeOf every some everyBelow above inside nodeIn nodesIn risesFrom rises alikeAt alikeTo alike rootOf rooted spans children paired bordered leaf
+unfolding with grounds nextAnswer limitAnswer pairCount inRange countAnswer judgeOf every some everyBelow above inside nodeIn nodesIn risesFrom rises alikeAt alikeTo alike rootOf rooted spans children paired bordered leaf
 fifth-added = refl
 
 five : State
@@ -108,24 +117,24 @@ five-is =
 
 -- Then seed 4 rescored to 4, then 2 withdrawn.
 rescored : State
-rescored = rescore five 4 (pos 4) .state
+rescored = doing five (rescore 4 (pos 4))
 
 abbrev rows-rescored : List Row
 rows-rescored = in-row (one 2 1) (pos 3) true ∷ in-row (one 4 3) (pos 2) true ∷ in-row (one 1 0) (pos 1) true ∷ in-row (one 3 1) (pos 4) true ∷ in-row (one 0 2) (negsuc 0) true ∷ []
 
 rescored-is : rescored ≡ holding rows-rescored 6
-unfolding rescored rescore rescoreAnswer givenOut inRange countAnswer rowOf withRow
-rescored-is = ap (λ (s : State). rescore s 4 (pos 4) .state) five-is
+unfolding rescored grounds givenOut inRange countAnswer rowOf withRow
+rescored-is = ap (λ (s : State). doing s (rescore 4 (pos 4))) five-is
 
 withdrawn : State
-withdrawn = withdraw rescored 2 .state
+withdrawn = doing rescored (withdraw 2)
 
 abbrev rows-withdrawn : List Row
 rows-withdrawn = in-row (one 2 1) (pos 3) true ∷ in-row (one 4 3) (pos 2) false ∷ in-row (one 1 0) (pos 1) true ∷ in-row (one 3 1) (pos 4) true ∷ in-row (one 0 2) (negsuc 0) true ∷ []
 
 withdrawn-is : withdrawn ≡ holding rows-withdrawn 7
-unfolding withdrawn moveTo moveAnswer givenOut countAnswer rowOf withRow
-withdrawn-is = ap (λ (s : State). withdraw s 2 .state) rescored-is
+unfolding withdrawn grounds givenOut countAnswer rowOf withRow
+withdrawn-is = ap (λ (s : State). doing s (withdraw 2)) rescored-is
 
 -- What is shown of each example.
 data Shown : Type 0 where
@@ -146,47 +155,47 @@ leaves-B : lists (leavesOf (opened .t)) ≡ lists (0 ∷ 0 ∷ 2 ∷ 2 ∷ 0 ∷
 leaves-B = ap (λ (s : State). lists (leavesOf (s .t))) opened-is
 
 border : says (adding (two 2 0 5 4)) ≡ says (refused 19 (Seed 1))
-unfolding add addAnswer nextAnswer limitAnswer pairCount inRange countAnswer judgeOf every some everyBelow above inside nodeIn nodesIn risesFrom rises alikeAt alikeTo alike rootOf rooted spans children paired bordered leaf
-border = ap (λ (s : State). says (said (add s (two 2 0 5 4) (pos 0) .answer))) opened-is
+unfolding grounds nextAnswer limitAnswer pairCount inRange countAnswer judgeOf every some everyBelow above inside nodeIn nodesIn risesFrom rises alikeAt alikeTo alike rootOf rooted spans children paired bordered leaf
+border = ap (λ (s : State). says (said (grounds s (add (two 2 0 5 4) (pos 0))))) opened-is
 
 ancestry : says (adding (two 0 0 1 1)) ≡ says (refused 17 (Seed 1))
-unfolding add addAnswer nextAnswer limitAnswer pairCount inRange countAnswer judgeOf every some everyBelow above inside nodeIn nodesIn risesFrom rises alikeAt alikeTo alike rootOf rooted spans children paired bordered leaf
-ancestry = ap (λ (s : State). says (said (add s (two 0 0 1 1) (pos 0) .answer))) opened-is
+unfolding grounds nextAnswer limitAnswer pairCount inRange countAnswer judgeOf every some everyBelow above inside nodeIn nodesIn risesFrom rises alikeAt alikeTo alike rootOf rooted spans children paired bordered leaf
+ancestry = ap (λ (s : State). says (said (grounds s (add (two 0 0 1 1) (pos 0))))) opened-is
 
 root : says (adding (two 0 0 4 2)) ≡ says (refused 18 (Seed 1))
-unfolding add addAnswer nextAnswer limitAnswer pairCount inRange countAnswer judgeOf every some everyBelow above inside nodeIn nodesIn risesFrom rises alikeAt alikeTo alike rootOf rooted spans children paired bordered leaf
-root = ap (λ (s : State). says (said (add s (two 0 0 4 2) (pos 0) .answer))) opened-is
+unfolding grounds nextAnswer limitAnswer pairCount inRange countAnswer judgeOf every some everyBelow above inside nodeIn nodesIn risesFrom rises alikeAt alikeTo alike rootOf rooted spans children paired bordered leaf
+root = ap (λ (s : State). says (said (grounds s (add (two 0 0 4 2) (pos 0))))) opened-is
 
 seed : says (adding (two 1 0 3 1)) ≡ says accepted
-unfolding add addAnswer nextAnswer limitAnswer pairCount inRange countAnswer judgeOf every some everyBelow above inside nodeIn nodesIn risesFrom rises alikeAt alikeTo alike rootOf rooted spans children paired bordered leaf
-seed = ap (λ (s : State). says (said (add s (two 1 0 3 1) (pos 0) .answer))) opened-is
+unfolding grounds nextAnswer limitAnswer pairCount inRange countAnswer judgeOf every some everyBelow above inside nodeIn nodesIn risesFrom rises alikeAt alikeTo alike rootOf rooted spans children paired bordered leaf
+seed = ap (λ (s : State). says (said (grounds s (add (two 1 0 3 1) (pos 0))))) opened-is
 
 listed : lists (bytesOf (areasOf (with opened (two 3 1 5 4) (pos 0)) 1)) ≡ lists (0 ∷ 2 ∷ 0 ∷ 0 ∷ 4 ∷ 4 ∷ 2 ∷ 3 ∷ [])
-unfolding with add addAnswer nextAnswer limitAnswer pairCount inRange countAnswer judgeOf every some everyBelow above inside nodeIn nodesIn risesFrom rises alikeAt alikeTo alike rootOf rooted spans children paired bordered leaf areas boxes boxRow begins boxAt column lastBelow firstBelow bytesOf fits level side rowOf
+unfolding with grounds nextAnswer limitAnswer pairCount inRange countAnswer judgeOf every some everyBelow above inside nodeIn nodesIn risesFrom rises alikeAt alikeTo alike rootOf rooted spans children paired bordered leaf areasOf areas boxes boxRow begins boxAt column lastBelow firstBelow bytesOf fits level side rowOf
 listed = ap (λ (s : State). lists (bytesOf (areasOf (with s (two 3 1 5 4) (pos 0)) 1))) opened-is
 
 none : lists (chain opened) ≡ lists (0 ∷ [])
-unfolding bestChain bestOf keyOf optimum.best better noBetter _⊕_ empty inMask tab chainable left under fits level side every above leaf
+unfolding grounds keyOf optimum.best better noBetter _⊕_ empty inMask tab chainable left under fits level side every above leaf
 none = ap (λ (s : State). lists (chain s)) opened-is
 
 zero-score : lists (chain (with opened (one 2 1) (pos 0))) ≡ lists (0 ∷ [])
-unfolding with add addAnswer nextAnswer limitAnswer pairCount inRange countAnswer judgeOf every some everyBelow above inside nodeIn nodesIn risesFrom rises alikeAt alikeTo alike rootOf rooted spans children paired bordered leaf bestChain bestOf keyOf optimum.best better noBetter _⊕_ empty inMask tab chainable left under fits level side
+unfolding with grounds nextAnswer limitAnswer pairCount inRange countAnswer judgeOf every some everyBelow above inside nodeIn nodesIn risesFrom rises alikeAt alikeTo alike rootOf rooted spans children paired bordered leaf keyOf optimum.best better noBetter _⊕_ empty inMask tab chainable left under fits level side
 zero-score = ap (λ (s : State). lists (chain (with s (one 2 1) (pos 0)))) opened-is
 
 minus-one : lists (chain (with opened (one 2 1) (negsuc 0))) ≡ lists (0 ∷ [])
-unfolding with add addAnswer nextAnswer limitAnswer pairCount inRange countAnswer judgeOf every some everyBelow above inside nodeIn nodesIn risesFrom rises alikeAt alikeTo alike rootOf rooted spans children paired bordered leaf bestChain bestOf keyOf optimum.best better noBetter _⊕_ empty inMask tab chainable left under fits level side
+unfolding with grounds nextAnswer limitAnswer pairCount inRange countAnswer judgeOf every some everyBelow above inside nodeIn nodesIn risesFrom rises alikeAt alikeTo alike rootOf rooted spans children paired bordered leaf keyOf optimum.best better noBetter _⊕_ empty inMask tab chainable left under fits level side
 minus-one = ap (λ (s : State). lists (chain (with s (one 2 1) (negsuc 0)))) opened-is
 
 six : lists (chain five) ≡ lists (6 ∷ 1 ∷ 2 ∷ 3 ∷ [])
-unfolding bestChain bestOf keyOf optimum.best better noBetter _⊕_ empty inMask tab chainable left under fits level side every above leaf
+unfolding grounds keyOf optimum.best better noBetter _⊕_ empty inMask tab chainable left under fits level side every above leaf
 six = ap (λ (s : State). lists (chain s)) five-is
 
 seven : lists (chain rescored) ≡ lists (7 ∷ 2 ∷ 3 ∷ 4 ∷ [])
-unfolding bestChain bestOf keyOf optimum.best better noBetter _⊕_ empty inMask tab chainable left under fits level side every above leaf
+unfolding grounds keyOf optimum.best better noBetter _⊕_ empty inMask tab chainable left under fits level side every above leaf
 seven = ap (λ (s : State). lists (chain s)) rescored-is
 
 then-five : lists (chain withdrawn) ≡ lists (5 ∷ 3 ∷ 4 ∷ [])
-unfolding bestChain bestOf keyOf optimum.best better noBetter _⊕_ empty inMask tab chainable left under fits level side every above leaf
+unfolding grounds keyOf optimum.best better noBetter _⊕_ empty inMask tab chainable left under fits level side every above leaf
 then-five = ap (λ (s : State). lists (chain s)) withdrawn-is
 
 rows : List Example

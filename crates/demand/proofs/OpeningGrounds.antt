@@ -7,6 +7,9 @@ use native.Mathlib.Omega.{arith}
 use lib.ListN.{length, getD, length-append, length-map}
 use borrow.Author.Tests.{lt-leb, le-ltb, ne-eqb}
 use Rattle.answer.specs.Answer.{Said, numberOf}
+use Rattle.answer.specs.Grounds.{Decides}
+use Rattle.answer.proofs.Denied.{clash}
+use Rattle.answer.proofs.Grounds.{in-order}
 use Rattle.answer.specs.Answer.Said.{accepted, refused}
 use Rattle.answer.specs.declared.Ground.the-variants.{ScoreRange}
 use Rattle.answer.specs.declared.Place.the-variants.{ByteInT, Seed}
@@ -15,8 +18,7 @@ use Rattle.answer.specs.declared.Answer.the-variants.{Accepted, Refused}
 use Rattle.tree.specs.Nested.{Nested}
 use Rattle.tree.specs.Reading as tree
 use Rattle.tree.specs.Reading.{leavesOf}
-use Rattle.tree.specs.Grounds as text
-use Rattle.tree.proofs.Grounds as texts
+use Rattle.tree.proofs.Grounds.{text-decides}
 use Rattle.tree.proofs.Trees.{tree-nested}
 use Rattle.judge.specs.Judge.{judgeOf}
 use Rattle.deck.specs.Deck as deck
@@ -27,16 +29,17 @@ use Rattle.deck.specs.Deck.{chainsOf}
 use Rattle.deck.specs.Handed.{answerOf, rowsIn}
 use Rattle.deck.proofs.Grounds as decks
 use Rattle.deck.proofs.Accepted.{source, storable}
-use Rattle.chain.specs.State.{State, changed, countAnswer, addAnswer}
+use Rattle.chain.specs.State.{State, countAnswer}
+use Rattle.chain.specs.Acts.{add, grounds, after}
 use Rattle.answer.specs.Answer.{given, unless}
 use Rattle.chain.specs.Opening.{opening, deckOpening}
 use Rattle.dealing.specs.Texts.{inT, bothOf, bothRead}
 use Rattle.dealing.specs.Seeds.{seedAnswer, seedsAnswer}
 use Rattle.dealing.specs.Deal.{Deal, deckAnswer, dealBy, dealAnswer, dealOf}
-use Rattle.demand.specs.Grounds.{Decides, nextNumber, OfT, OpenSays, SeedsSay, DeckSays}
+use Rattle.demand.specs.Grounds.{nextNumber, OfT, OpenSays, SeedsSay, OpenDeckSays}
 use Rattle.demand.specs.Grounds.OfT.{byte, none}
 use Rattle.dealing.proofs.BothRead.{are-trees}
-use Rattle.demand.proofs.Grounds.{clash, in-order, add-answer-decides}
+use Rattle.demand.proofs.Grounds.{add-decides}
 
 -- The two texts.
 of-t : {J : Said → Type 0} (x : tree.Reading) → Decides J (tree.answerOf x) → Decides (OfT J) (inT (tree.answerOf x))
@@ -50,9 +53,6 @@ of-t {J} (tree.Reading.refused g k) d = record { judged = byte (d .judged); deci
     go : {x : Said} → OfT J x → x ≡ refused (numberOf g) (ByteInT k)
     go (byte h) = let e = d .decided h in cc
     go (none h) = let e = d .decided h in clash (cc)
-
-text-decides : (s : List ℕ) → Decides (text.Judged s) (tree.answerOf (tree.reading s))
-text-decides s = record { judged = texts.judged s; decided = texts.decided s }
 
 both-answer : (x y : tree.Reading) → unless (tree.answerOf x) (inT (tree.answerOf y)) ≡ bothOf x y .answer
 both-answer (tree.Reading.refused g k) y = refl
@@ -73,7 +73,7 @@ record Fits (s : State) (rows : List Row) : Type 0 where
   count : s .changes ≤ length (s .rows)
 
 module _ (s : State) (row : Row) (rows : List Row) (fits : Fits s (row ∷ rows)) where
-  fits-next : Fits (changed s (s .rows ++ newRow (row .pairs) (row .score) ∷ [])) rows
+  fits-next : Fits (after (add (row .pairs) (row .score)) s) rows
   unfolding flatten
   fits-next =
       let n = length-append (s .rows) (newRow (row .pairs) (row .score) ∷ []) in
@@ -85,8 +85,8 @@ module _ (s : State) (row : Row) (rows : List Row) (fits : Fits s (row ∷ rows)
       }
 
   -- The answer to its add is that of grounds 11 and 15 to 19.
-  as-add : addAnswer s (row .pairs) (row .score) ≡ seedAnswer (leavesOf (s .q)) (leavesOf (s .t)) (nextNumber s) row
-  unfolding addAnswer nextAnswer limitAnswer countAnswer flatten
+  as-add : grounds s (add (row .pairs) (row .score)) ≡ seedAnswer (leavesOf (s .q)) (leavesOf (s .t)) (nextNumber s) row
+  unfolding grounds nextAnswer limitAnswer countAnswer flatten
   as-add =
       rw (
         ne-eqb (length (row .pairs)) 0 (λ e. absurd (omega (arith, fits .some 0 (omega arith), e))),
@@ -105,10 +105,10 @@ seeds-decide : (rows : List Row) (s : State) → Nested (leavesOf (s .q)) → Ne
 unfolding SeedsSay seedsAnswer
 seeds-decide [] s tree-q tree-t fits = record { judged = refl; decided = λ e. e }
 seeds-decide (row ∷ rows) s tree-q tree-t fits =
-    let next : State = changed s (s .rows ++ newRow (row .pairs) (row .score) ∷ []) in
+    let next : State = after (add (row .pairs) (row .score)) s in
     let number : nextNumber next ≡ suc (nextNumber s) = omega (arith, length-append (s .rows) (newRow (row .pairs) (row .score) ∷ [])) in
     in-order (seedAnswer (leavesOf (s .q)) (leavesOf (s .t)) (nextNumber s) row)
-    (subst (Decides _) (as-add s row rows fits) (add-answer-decides s tree-q tree-t (row .pairs) (row .score)))
+    (subst (Decides _) (as-add s row rows fits) (add-decides s tree-q tree-t (row .pairs) (row .score)))
     (subst (λ (n : ℕ). Decides (SeedsSay next rows) (seedsAnswer (leavesOf (s .q)) (leavesOf (s .t)) n rows)) number (seeds-decide rows next tree-q tree-t (fits-next s row rows fits)))
 
 -- The deck.
@@ -127,14 +127,14 @@ deal-answer : (a : Answer) (whole : Deal) → whole .answer ≡ Accepted → a �
 deal-answer Accepted whole e = sym e
 deal-answer (Refused g p) whole e = refl
 
-by-parts : (q t d : List ℕ) → Decides (DeckSays q t d) (dealAnswer q t d)
+by-parts : (q t d : List ℕ) → Decides (OpenDeckSays q t d) (dealAnswer q t d)
 unfolding dealAnswer deckAnswer opening
 by-parts q t d =
     let trees = are-trees q t (bothRead q t) refl in
     in-order (bothRead q t .answer) (open-decides q t)
-    (in-order (answerOf (deck.reading d)) record { judged = decks.judged d; decided = decks.decided d }
+    (in-order (answerOf (deck.reading d)) (decks.deck-decides d)
     (seeds-decide (rowsIn (deck.reading d)) (opening q t .state) (tree-nested _ (trees .0)) (tree-nested _ (trees .1)) (deck-fits q t d)))
 
-pub deck-decides : (q t d : List ℕ) → Decides (DeckSays q t d) (deckOpening q t d .answer)
+pub open-deck-decides : (q t d : List ℕ) → Decides (OpenDeckSays q t d) (deckOpening q t d .answer)
 unfolding deckOpening dealOf
-deck-decides q t d = subst (Decides (DeckSays q t d)) (deal-answer (dealAnswer q t d) _ refl) (by-parts q t d)
+open-deck-decides q t d = subst (Decides (OpenDeckSays q t d)) (deal-answer (dealAnswer q t d) _ refl) (by-parts q t d)

@@ -1,5 +1,4 @@
 -- `chain::Session::row` meets its contract.
-use mathlib.Core.Path.{refl}
 use borrow.Author.Tests.{not-true, not-false}
 use Rattle.answer.proofs.Given.{tested}
 use Rattle.chain.proofs.Judges.{given-out}
@@ -21,7 +20,7 @@ summary-at-requires : tie.Need-summary-at-requires
 summary-at-requires c κs = search needs
 
 returns-2 : tie.Need-returns-2
-returns-2 c = shows (c .before .before .before .args .self) _ (not-false _ (tested (c .before .before .given-out .ensures) (c .before .if1 .left))) (c .summary-at .ensures) refl
+returns-2 c = shows (c .before .before .before .args .self) _ (not-false _ (tested (c .before .before .given-out .ensures) (c .before .if1 .left))) (c .summary-at .ensures)
 
 pub row-spec : {M : Type 1} → statement M
 row-spec =

@@ -2,7 +2,6 @@
 use Rattle.answer.proofs.Given.{tested}
 use Rattle.table.specs.Table.{rowsOf}
 use Rattle.table.proofs.Tables.{rows-length}
-use Rattle.chain.specs.State.{moveAnswer}
 use Rattle.chain.proofs.Judges.{given-out, as-asked}
 use borrow.Author.Needs.{needs}
 use Rattle.chain.proofs.judging.judge_move.Statement.{statement}
@@ -12,7 +11,6 @@ given-out-requires : tie.Need-given-out-requires
 given-out-requires c κs = search needs
 
 returns : tie.Need-returns
-unfolding moveAnswer
 returns c =
     let start = c .before .before in
     rw (rows-length (start .args .s .table), tested (c .before .given-out .ensures) (c .if1 .taken))
@@ -27,7 +25,6 @@ same-requires : tie.Need-same-requires
 same-requires c κs = search needs
 
 returns-2 : tie.Need-returns-2
-unfolding moveAnswer
 returns-2 c =
     let start = c .before .before .before .before .before in
     rw (rows-length (start .args .s .table), tested (c .before .before .before .before .given-out .ensures) (c .before .before .before .if1 .left), as-asked (rowsOf (start .args .s .table)) (start .args .number) (start .args .to) (c .before .before .summary-at .ensures) (c .before .same .ensures) (c .if2 .taken))
@@ -36,7 +33,6 @@ judge-count-requires : tie.Need-judge-count-requires
 judge-count-requires c κs = search needs
 
 returns-3 : tie.Need-returns-3
-unfolding moveAnswer
 returns-3 c =
     let start = c .before .before .before .before .before .before in
     rw (rows-length (start .args .s .table), tested (c .before .before .before .before .before .given-out .ensures) (c .before .before .before .before .if1 .left), as-asked (rowsOf (start .args .s .table)) (start .args .number) (start .args .to) (c .before .before .before .summary-at .ensures) (c .before .before .same .ensures) (c .before .if2 .left)) (c .judge-count .ensures)

@@ -2,7 +2,7 @@
 use mir.Facts.{toZ-ofZ}
 use Rattle.answer.proofs.Given.{tested}
 use Rattle.table.proofs.Tables.{rows-length}
-use Rattle.chain.specs.State.{rescoreAnswer}
+use Rattle.chain.specs.Acts.{grounds}
 use borrow.Author.Needs.{needs}
 use Rattle.chain.proofs.judging.judge_rescore.Statement.{statement}
 use Rattle.chain.proofs.judging.judge_rescore.Tie as tie
@@ -11,7 +11,7 @@ given-out-requires : tie.Need-given-out-requires
 given-out-requires c κs = search needs
 
 returns : tie.Need-returns
-unfolding rescoreAnswer
+unfolding grounds
 returns c =
     let start = c .before .before in
     rw (rows-length (start .args .s .table), tested (c .before .given-out .ensures) (c .if1 .taken))
@@ -20,7 +20,7 @@ in-range-requires : tie.Need-in-range-requires
 in-range-requires c κs = search needs
 
 returns-2 : tie.Need-returns-2
-unfolding rescoreAnswer
+unfolding grounds
 returns-2 c =
     let start = c .before .before .before .before in
     rw (rows-length (start .args .s .table), tested (c .before .before .before .given-out .ensures) (c .before .before .if1 .left), tested (rw (toZ-ofZ (start .fits .score)) at (c .before .in-range .ensures)) (c .if2 .taken))
@@ -29,7 +29,7 @@ judge-count-requires : tie.Need-judge-count-requires
 judge-count-requires c κs = search needs
 
 returns-3 : tie.Need-returns-3
-unfolding rescoreAnswer
+unfolding grounds
 returns-3 c =
     let start = c .before .before .before .before .before in
     rw (rows-length (start .args .s .table), tested (c .before .before .before .before .given-out .ensures) (c .before .before .before .if1 .left), tested (rw (toZ-ofZ (start .fits .score)) at (c .before .before .in-range .ensures)) (c .before .if2 .left)) (c .judge-count .ensures)
