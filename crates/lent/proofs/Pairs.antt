@@ -1,5 +1,5 @@
 -- The nodes of a list of pairs hold its first 1,025 pairs, and these are added as the whole list is: of more than 1,024 pairs none is looked at.
-use mathlib.Core.Path.{_≡_, refl, ap, sym, _∙_}
+use mathlib.Core.Path.{_≡_, refl, ap, sym, subst, _∙_}
 use mathlib.Core.Bool.{Bool, true, false, not}
 use mathlib.Core.Logic.{inl, inr}
 use mathlib.Core.List.{List, [], _∷_, _++_, append-assoc, append-nil}
@@ -12,17 +12,23 @@ use lib.ListN.{length, take, drop, getD, set, length-set, length-replicate}
 use lib.Seq.{drop-cons, drop-length, take-all, take-nil, take-suc-set, length-take-le}
 use borrow.Author.Tests.{lt-ltb, le-ltb, ne-eqb}
 use Rattle.answer.specs.declared.Answer.{Answer}
-use Rattle.answer.specs.declared.Answer.the-variants.{Refused}
+use Rattle.answer.specs.declared.Answer.the-variants.{Accepted, Refused}
+use Rattle.answer.proofs.Denied.{denies}
 use Rattle.answer.specs.declared.Ground.the-variants.{ScoreRange, SeedLimit, PairLimit}
 use Rattle.answer.specs.declared.Place.{Place}
 use Rattle.answer.specs.declared.Place.the-variants.{Seed}
 use Rattle.tree.proofs.Leaves.{lt-or-le}
+use Rattle.tree.specs.Reading.{leavesOf}
 use Rattle.seed.specs.Pairs.{pairOf, pairsOf}
 use Rattle.seed.specs.declared.Pair.{Pair}
 use Rattle.answer.specs.Answer.{given, unless}
-use Rattle.table.specs.Rows.{inRange}
+use Rattle.table.specs.Rows.{pairCount, inRange}
+use Rattle.judge.specs.Judge.{judgeOf}
 use Rattle.adding.specs.Adding.{limitAnswer, nextAnswer}
-use Rattle.chain.specs.State.{State, decide, addAnswer, add}
+use Rattle.chain.specs.State.{State, countAnswer}
+use Rattle.chain.specs.Acts.{add, grounds, step}
+use Rattle.chain.specs.View.{view, Does}
+use Rattle.chain.specs.declared.Session.{Session}
 use Rattle.lent.specs.Listing.{noNodes, withPair, withPairs, heldIn, Filled}
 use Rattle.lent.specs.declared.listing.Nodes.{Nodes}
 
@@ -114,20 +120,51 @@ limit-many : (seeds pairs count : ℕ) (z : ℤ) → 1024 < count → limitAnswe
 unfolding limitAnswer
 limit-many seeds pairs count z h = rw (ne-eqb count 0 (λ e. omega arith), lt-ltb 1024 (pairs + count) (omega arith))
 
-refused-alike : (b c : Bool) (p : Place) (judged judged′ later : Answer) (s next next′ : State) → decide (unless (unless (tooMany b c p) judged) later) s next ≡ decide (unless (unless (tooMany b c p) judged′) later) s next′
-refused-alike true c p judged judged′ later s next next′ = refl
-refused-alike false true p judged judged′ later s next next′ = refl
-refused-alike false false p judged judged′ later s next next′ = refl
+denied : (b c : Bool) (p : Place) (later : Answer) → unless (tooMany b c p) later ≡ tooMany b c p
+denied true c p later = refl
+denied false true p later = refl
+denied false false p later = refl
 
-pub add-many : (s : State) (ps ps′ : List Pair) (z : ℤ) → 1024 < length ps → 1024 < length ps′ → add s ps z ≡ add s ps′ z
-unfolding add addAnswer nextAnswer
-add-many s ps ps′ z h h′ = rw (limit-many _ _ (length ps) z h, limit-many _ _ (length ps′) z h′) (refused-alike (not (inRange z)) (leb 64 (length (s .rows))) _ _ _ _ s _ _)
+never-accepted : (b c : Bool) (p : Place) → tooMany b c p ≡ Accepted → ⊥
+never-accepted true c p e = denies {x = Refused ScoreRange p} refl e
+never-accepted false true p e = denies {x = Refused SeedLimit p} refl e
+never-accepted false false p e = denies {x = Refused PairLimit p} refl e
+
+abbrev manyAnswer : State → ℤ → Answer
+manyAnswer s z = tooMany (not (inRange z)) (leb 64 (length (s .rows))) (Seed (length (s .rows) + 1))
+
+pub add-many : (s : State) (ps : List Pair) (z : ℤ) → 1024 < length ps → grounds s (add ps z) ≡ manyAnswer s z
+unfolding grounds nextAnswer
+add-many s ps z h =
+    let judged : Answer = judgeOf (leavesOf (s .q)) (leavesOf (s .t)) ps (length (s .rows) + 1) in
+    let counted : Answer = countAnswer (s .changes) in
+    let number : Place = Seed (length (s .rows) + 1) in
+    ap (λ (x : Answer). unless (unless x judged) counted) (limit-many (length (s .rows)) (pairCount (s .rows)) (length ps) z h)
+    ∙ ap (λ (x : Answer). unless x counted) (denied (not (inRange z)) (leb 64 (length (s .rows))) number judged)
+    ∙ denied (not (inRange z)) (leb 64 (length (s .rows))) number counted
 
 -- So the pairs held are added as the whole list is.
-pub add-listed : (s : State) (ps : List Pair) (z : ℤ) → add s (heldIn (withPairs ps noNodes)) z ≡ add s ps z
-add-listed s ps z =
-    ap (λ (held : List Pair). add s held z) (listed-first ps)
-    ∙ elim (lt-or-le 1025 (length ps)) [
-      | inl more ↦ add-many s (take 1025 ps) ps z (rw (length-take-le 1025 ps (omega arith)) (omega arith)) (omega arith)
-      | inr all ↦ ap (λ (held : List Pair). add s held z) (take-all 1025 ps all)
+does-many : (s r : Session) (ps ps′ : List Pair) (z : ℤ) (a : Answer) → 1024 < length ps → 1024 < length ps′ → Does s (add ps z) a r → Does s (add ps′ z) a r
+does-many s r ps ps′ z a h h′ d =
+    let answers = d .answers ∙ add-many (view s) ps z h in
+    let denial : a ≡ Accepted → ⊥ = λ e. never-accepted (not (inRange z)) (leb 64 (length (view s .rows))) _ (sym answers ∙ e) in
+    record {
+      answers = answers ∙ sym (add-many (view s) ps′ z h′);
+      leaves = ap view (d .refused denial) ∙ sym (refused-still a denial);
+      sound = d .sound;
+      refused = d .refused;
+    }
+  where
+    refused-still : (b : Answer) → (b ≡ Accepted → ⊥) → step (view s) (add ps′ z) b ≡ view s
+    refused-still Accepted denial = absurd (denial refl)
+    refused-still (Refused g p) denial = refl
+
+pub add-listed : (s : Session) (ps : List Pair) (z : ℤ) {a : Answer} {r : Session} → Does s (add (heldIn (withPairs ps noNodes)) z) a r → Does s (add ps z) a r
+add-listed s ps z {a} {r} d =
+    elim (lt-or-le 1025 (length ps)) [
+      | inl more ↦ does-many s r (take 1025 ps) ps z a (rw (length-take-le 1025 ps (omega arith)) (omega arith)) (omega arith) first
+      | inr all ↦ subst (λ (held : List Pair). Does s (add held z) a r) (take-all 1025 ps all) first
     ]
+  where
+    first : Does s (add (take 1025 ps) z) a r
+    first = subst (λ (held : List Pair). Does s (add held z) a r) (listed-first ps) d

@@ -8,30 +8,25 @@ use lib.IntN.{ℤ}
 use lib.ListN.{length, length-set}
 use lib.Seq.{getD-set-same, getD-set-other}
 use Rattle.answer.specs.declared.Answer.{Answer}
-use Rattle.answer.specs.declared.Answer.the-variants.{Accepted, Refused}
+use Rattle.answer.specs.declared.Answer.the-variants.{Accepted}
 use Rattle.table.specs.Rows.{Row, noRow, rowOf, withRow, withScore}
 use Rattle.table.specs.Table.{rowsOf}
-use Rattle.chain.specs.State.{State, decide, changed, rescoreAnswer, rescore}
+use Rattle.chain.specs.State.{State, changed}
+use Rattle.chain.specs.Acts.{rescore, grounds, step}
 use Rattle.chain.specs.View.{view, Does}
 use Rattle.chain.specs.declared.Session.{Session}
 use Rattle.lent.specs.Rescored.{OnlyScore, Rescored}
 use Rattle.chain.proofs.Judges.{Given, rescorable}
 
-decided : (b : Answer) (s next : State) → decide b s next .answer ≡ b
-decided Accepted s next = refl
-decided (Refused g p) s next = refl
-
-module _ (s next : Session) (k : ℕ) (z : ℤ) (a : Answer) (d : Does s (rescore (view s) k z) a next) (ok : a ≡ Accepted) where
-  passed : rescoreAnswer (view s) k z ≡ Accepted
-  unfolding rescore
-  passed = sym (decided _ (view s) _) ∙ sym (d .answers) ∙ ok
+module _ (s next : Session) (k : ℕ) (z : ℤ) (a : Answer) (d : Does s (rescore k z) a next) (ok : a ≡ Accepted) where
+  passed : grounds (view s) (rescore k z) ≡ Accepted
+  passed = sym (d .answers) ∙ ok
 
   number : Given (length (rowsOf (s .table))) k
   number = rescorable (view s) k z passed .number
 
   state : view next ≡ changed (view s) (withRow (rowsOf (s .table)) k (withScore (rowOf (rowsOf (s .table)) k) z))
-  unfolding rescore
-  state = d .leaves ∙ ap (λ (b : Answer). decide b (view s) (changed (view s) (withRow (rowsOf (s .table)) k (withScore (rowOf (rowsOf (s .table)) k) z))) .state) passed
+  state = d .leaves ∙ ap (step (view s) (rescore k z)) ok
 
   rows : rowsOf (next .table) ≡ withRow (rowsOf (s .table)) k (withScore (rowOf (rowsOf (s .table)) k) z)
   rows = ap (λ (x : State). x .rows) state
@@ -61,5 +56,5 @@ module _ (s next : Session) (k : ℕ) (z : ℤ) (a : Answer) (d : Does s (rescor
         changes = ap (λ (x : State). x .changes) state;
       }
 
-pub rescored-only : (s next : Session) (k : ℕ) (z : ℤ) (a : Answer) → Does s (rescore (view s) k z) a next → Rescored s k z a next
+pub rescored-only : (s next : Session) (k : ℕ) (z : ℤ) (a : Answer) → Does s (rescore k z) a next → Rescored s k z a next
 rescored-only s next k z a d = record { accepted = only-score s next k z a d; refused = d .refused }

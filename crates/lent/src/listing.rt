@@ -3,7 +3,7 @@ use chain::Added;
 use chain::Session;
 use seed::Pair;
 ghost use mathlib.Core.Path.{_≡_};
-ghost use Rattle.chain.specs.State.{add, numberGiven};
+ghost use Rattle.chain.specs.Acts.{add, numberGiven};
 ghost use Rattle.chain.specs.View.{view, Sound, Does};
 ghost use Rattle.lent.specs.Listing.{noNodes, withPair, withPairs, heldIn, Filled};
 
@@ -56,7 +56,7 @@ pub fn listed(pairs: &[Pair]) -> Nodes
 // Adds the seed of the pairs that were listed.
 pub fn add_listed(session: Session, nodes: Nodes, score: i32) -> Added
     requires { ⌜ (Sound session) × (Filled nodes) ⌝ }
-    ensures { λ r. ⌜ Does session (add (view session) (heldIn nodes) score) (r .answer) (r .session) × (r .number ≡ numberGiven (view session) (r .answer)) ⌝ }
+    ensures { λ r. ⌜ Does session (add (heldIn nodes) score) (r .answer) (r .session) × (r .number ≡ numberGiven (view session) (r .answer)) ⌝ }
 {
     let count = nodes.count;
     let qs = nodes.qs;

@@ -21,7 +21,8 @@ use Rattle.chain.specs.State.{State}
 use Rattle.answer.specs.Answer.{given}
 use Rattle.chain.specs.View.{view}
 use Rattle.chain.specs.Opening.{deckOpening, Opens}
-use Rattle.chain.specs.Looking.{bestChain, Chains}
+use Rattle.chain.specs.Acts.{grounds}
+use Rattle.chain.specs.Looking.{bestIn, Chains}
 use Rattle.chain.specs.declared.Session.{Session}
 use Rattle.lines.specs.Lines.{resultLines, refusalLine, printed}
 use Rattle.lines.specs.declared.Lines.{Lines}
@@ -43,22 +44,19 @@ opens-input input q t d parts w is-q is-t is-d {a} {s} o =
     (subst (λ (x : List ℕ). Opens (deckOpening (textQ input) x d) a s) (is-t ∙ w .in-t .holds)
     (subst (λ (x : List ℕ). Opens (deckOpening x t d) a s) (is-q ∙ w .in-q .holds) o))
 
--- With room enough the answer does not hang on the room.
-room-enough : (s : State) (room : ℕ) → scratchNeeded ≤ room → bestChain s room ≡ bestChain s scratchNeeded
-unfolding bestChain bestOf
-room-enough s room h = rw (le-ltb room scratchNeeded h)
-
 -- The lines are those of the best chain, or of the refusal, and the scratch is left so.
 module _ (input before : List ℕ) (a : Answer) (s : Session) (o : Opens (outcomeOf input) a s) where
   pub lines-accepted : a ≡ Accepted → scratchNeeded ≤ length before → (after : List ℕ) (r : Best) → Chains (view s) before after r → (resultLines (r .total) (r .chain) ≡ linesOf input) × (after ≡ scratchLeft input before)
-  unfolding linesOf scratchLeft scratchAfter
+  unfolding linesOf scratchLeft grounds
   lines-accepted ok room after r c =
-      let same : r ≡ bestChain (outcomeOf input .state) scratchNeeded = c .answers ∙ room-enough (view s) (length before) room ∙ ap (λ (x : State). bestChain x scratchNeeded) (o .leaves) in
+      let long = le-ltb (length before) scratchNeeded room in
+      let mine : r ≡ bestIn (view s) = c .answers ∙ rw long in
+      let same : r ≡ bestIn (outcomeOf input .state) = mine ∙ ap bestIn (o .leaves) in
       let yes-answer : Accepted ≡ outcomeOf input .answer = sym ok ∙ o .answers in (
         ap (λ (x : Best). resultLines (x .total) (x .chain)) same
             ∙ ap (λ (x : Answer). linesBy x (outcomeOf input .state)) yes-answer,
         c .scratch
-            ∙ ap (λ (b : Bool). cond b before (replicate (length before) 0)) (le-ltb (length before) scratchNeeded room)
+            ∙ (rw long)
             ∙ ap (λ (x : Answer). zeroedBy x before) yes-answer,
       )
 
@@ -71,8 +69,7 @@ module _ (input before : List ℕ) (a : Answer) (s : Session) (o : Opens (outcom
       go (Refused g p) f = (ap (λ (y : Answer). refusalLine (said y)) f, refl)
 
 -- A chain has a flag for each of 64 numbers.
-whole : (s : State) → length (bestChain s scratchNeeded .chain) ≡ 64
-unfolding bestChain bestOf
+whole : (s : State) → length (bestIn s .chain) ≡ 64
 whole s = length-tab 64 _
 
 -- Every report fits 256 bytes.
@@ -81,7 +78,7 @@ unfolding linesOf
 lines-short input = go (outcomeOf input .answer)
   where
     go : (x : Answer) → length (linesBy x (outcomeOf input .state)) ≤ 256
-    go Accepted = omega (arith, length-result (bestChain (outcomeOf input .state) scratchNeeded .total) (bestChain (outcomeOf input .state) scratchNeeded .chain) (whole (outcomeOf input .state)))
+    go Accepted = omega (arith, length-result (bestIn (outcomeOf input .state) .total) (bestIn (outcomeOf input .state) .chain) (whole (outcomeOf input .state)))
     go (Refused g p) = omega (arith, length-refusal (said (Refused g p)))
 
 -- The lines of an input in 256 bytes.

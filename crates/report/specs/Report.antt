@@ -10,10 +10,10 @@ use Rattle.answer.specs.declared.Place.the-variants.{Nothing}
 use Rattle.answer.specs.declared.Answer.{Answer}
 use Rattle.answer.specs.declared.Answer.the-variants.{Accepted, Refused}
 use Rattle.best.specs.Best.{scratchNeeded}
-use Rattle.chain.specs.State.{State, Outcome}
+use Rattle.chain.specs.State.{State}
 use Rattle.answer.specs.Answer.{given}
-use Rattle.chain.specs.Opening.{deckOpening}
-use Rattle.chain.specs.Looking.{bestChain}
+use Rattle.chain.specs.Opening.{Outcome, deckOpening}
+use Rattle.chain.specs.Looking.{bestIn}
 use Rattle.lines.specs.Lines.{resultLines, refusalLine}
 use Rattle.report.specs.Input.{textQ, textT, deckBytes}
 use Rattle.report.specs.declared.Reported.{Reported}
@@ -24,7 +24,7 @@ outcomeOf input = deckOpening (textQ input) (textT input) (deckBytes input)
 
 -- Two lines for an accepted opening, the total and the chain of its best chain; one for a refusal.
 abbrev pub linesBy : Answer → State → List ℕ
-linesBy Accepted s = resultLines (bestChain s scratchNeeded .total) (bestChain s scratchNeeded .chain)
+linesBy Accepted s = resultLines (bestIn s .total) (bestIn s .chain)
 linesBy (Refused g p) s = refusalLine (said (Refused g p))
 
 unfoldable pub linesOf : List ℕ → List ℕ

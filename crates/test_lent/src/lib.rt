@@ -7,7 +7,7 @@ use lent::rescore;
 use seed::Pair;
 ghost use mathlib.Core.Path.{_≡_};
 ghost use Prim.Native.Nat.{min};
-ghost use Rattle.chain.specs.State.{add, numberGiven, rescore};
+ghost use Rattle.chain.specs.Acts.{add, rescore, numberGiven};
 ghost use Rattle.chain.specs.View.{view, Sound, Does};
 ghost use Rattle.test_lent.specs.Lending.{pairsOn};
 
@@ -30,7 +30,7 @@ fn lent_count(count: usize) -> usize
 // Adds the seed of a list by value, whose pairs are lent.
 pub fn add_from(session: Session, list: PairList, score: i32) -> Added
     requires { ⌜ Sound session ⌝ }
-    ensures does { λ r. ⌜ Does session (add (view session) (pairsOn list) score) (r .answer) (r .session) ⌝ }
+    ensures does { λ r. ⌜ Does session (add (pairsOn list) score) (r .answer) (r .session) ⌝ }
     ensures number { λ r. ⌜ r .number ≡ numberGiven (view session) (r .answer) ⌝ }
 {
     let count = lent_count(list.count);
@@ -41,7 +41,7 @@ pub fn add_from(session: Session, list: PairList, score: i32) -> Added
 // Rescores in a session by value, which is lent and handed back.
 pub fn rescore_by_reference(session: Session, number: usize, score: i32) -> Changed
     requires { ⌜ Sound session ⌝ }
-    ensures { λ r. ⌜ Does session (rescore (view session) number score) (r .answer) (r .session) ⌝ }
+    ensures { λ r. ⌜ Does session (rescore number score) (r .answer) (r .session) ⌝ }
 {
     let mut held = session;
     let answer = rescore(&mut held, number, score);

@@ -38,7 +38,7 @@ use denote.Triple.Walked.{says, needs, onExit, Stays, stay-none, stay-none-slice
 use denote.Triple.Clauses.{ensured, lasts}
 use denote.Exit.{yes}
 use Rattle.seed.specs.declared.Pair.{Pair}
-use Rattle.chain.specs.State.{Outcome, add, numberGiven}
+use Rattle.chain.specs.Acts.{add, numberGiven}
 use Rattle.chain.specs.View.{view, Sound, Does}
 use Rattle.chain.specs.declared.Session.{Session}
 use Rattle.chain.specs.declared.Added.{Added}
@@ -101,19 +101,19 @@ module _ {M : Type 1} (𝓤 : URA M) (H : Heap 𝓤) (A : Atoms 𝓤) (W : Given
 
   -- what the contract says of the result, and what that of `add_listed` does
   abbrev Right : Added → Type 0
-  Right r = Does h (add (view h) ys z) (r .answer) (r .session)
+  Right r = Does h (add ys z) (r .answer) (r .session)
 
   abbrev Numbered : Added → Type 0
   Numbered r = r .number ≡ numberGiven (view h) (r .answer)
 
   abbrev Known : Nodes → Added → Type 0
-  Known l r = Does h (add (view h) (heldIn l) z) (r .answer) (r .session) × Numbered r
+  Known l r = Does h (add (heldIn l) z) (r .answer) (r .session) × Numbered r
 
   -- the pairs held are added as the whole slice is
   right : (l : Nodes) (r : Added) → l ≡ all → Known l r → Right r
   right l r e known =
-      subst (λ (o : Outcome). Does h o (r .answer) (r .session)) (add-listed (view h) ys z)
-      (subst (λ (m : Nodes). Does h (add (view h) (heldIn m) z) (r .answer) (r .session)) e (known .0))
+      add-listed h ys z
+      (subst (λ (m : Nodes). Does h (add (heldIn m) z) (r .answer) (r .session)) e (known .0))
 
   abbrev Post : Val → SProp 𝓤
   Post = walkOf 𝓤 H A f.ended stayed (f.clauses 𝓤 H A mem run) .post (((κ, tt), (q, tt), tt, x, at), tt)

@@ -43,7 +43,7 @@ use denote.Triple.Table.{entered, cited}
 use denote.Triple.Walked.{says, needs, Stays, stay-ref, stay-none, walkOf, AllGo, goes-none, goes-ref, Walks, ends-at, walked, walk-meets}
 use denote.Triple.Clauses.{ensured, lasts}
 use denote.Exit.{yes}
-use Rattle.chain.specs.State.{rescore}
+use Rattle.chain.specs.Acts.{rescore}
 use Rattle.chain.specs.View.{view, Sound, Does}
 use Rattle.chain.specs.declared.Session.{Session}
 use Rattle.chain.specs.declared.Changed.{Changed}
@@ -86,7 +86,7 @@ module _ {M : Type 1} (𝓤 : URA M) (H : Heap 𝓤) (A : Atoms 𝓤) (W : Given
 
   -- what the method's contract says of what it returns
   abbrev Right : Changed → Type 0
-  Right r = Does h (rescore (view h) n z) (r .answer) (r .session)
+  Right r = Does h (rescore n z) (r .answer) (r .session)
 
   abbrev Post : Val → SProp 𝓤
   Post = walkOf 𝓤 H A f.ended stayed (f.clauses 𝓤 H A at-mem run) .post (((κ, tt), (q, tt), tt, x, at), tt)

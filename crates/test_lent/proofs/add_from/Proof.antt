@@ -50,7 +50,7 @@ use denote.Triple.Walked.{says, needs, onExit, Stays, stay-none, walkOf, goes-no
 use denote.Triple.Clauses.{ensured, lasts}
 use denote.Exit.{yes}
 use Rattle.seed.specs.declared.Pair.{Pair}
-use Rattle.chain.specs.State.{add, numberGiven}
+use Rattle.chain.specs.Acts.{add, numberGiven}
 use Rattle.chain.specs.View.{view, Sound, Does}
 use Rattle.chain.specs.declared.Session.{Session}
 use Rattle.chain.specs.declared.Added.{Added}
@@ -108,7 +108,7 @@ module _ {M : Type 1} (𝓤 : URA M) (H : Heap 𝓤) (A : Atoms 𝓤) (W : Given
 
   -- what the contract says of the result
   abbrev Right : Added → Type 0
-  Right r = Does h (add (view h) (pairsOn d) z) (r .answer) (r .session)
+  Right r = Does h (add (pairsOn d) z) (r .answer) (r .session)
 
   abbrev Numbered : Added → Type 0
   Numbered r = r .number ≡ numberGiven (view h) (r .answer)
@@ -179,10 +179,10 @@ module _ {M : Type 1} (𝓤 : URA M) (H : Heap 𝓤) (A : Atoms 𝓤) (W : Given
 
     -- what the contract of `add` says
     abbrev Known : Added → Type 0
-    Known r = Does h (add (view h) ys z) (r .answer) (r .session)
+    Known r = Does h (add ys z) (r .answer) (r .session)
 
     right : (r : Added) → Known r → Right r
-    right r known = subst (λ (ps : List Pair). Does h (add (view h) ps z) (r .answer) (r .session)) on-list known
+    right r known = subst (λ (ps : List Pair). Does h (add ps z) (r .answer) (r .session)) on-list known
 
     said : (α : ℕ) (γ : GName) (r : Added) → ent 𝓤 (ensured 𝓤 H A g.ended (g.clauses 𝓤 H A mem run) (α ∷ [], tt) (h, (y γ, (z, tt))) tt r) (sep 𝓤 (fact 𝓤 (Known r)) (fact 𝓤 (Numbered r)))
     said α γ r = exE 𝓤 _ (λ ws. snd∗ 𝓤 (sem 𝓤 H A (lasts g.ended (α ∷ [], tt) (h, (y γ, (z, tt))) ws)) (sep 𝓤 (fact 𝓤 (Known r)) (fact 𝓤 (Numbered r))))
