@@ -23,13 +23,13 @@ use Rattle.optimum.specs.Table.{stored}
 use Rattle.optimum.specs.Table as optimum
 use Rattle.optimum.proofs.Booleans.{and-r}
 use Rattle.standing.specs.Standing.{Stood}
-use Rattle.best.specs.Best.{keyOf, scratchNeeded, refused, bestOf, scratchAfter, Answered}
+use Rattle.best.specs.Best.{keyOf, scratchNeeded, tooShort, bestOf, scratchAfter, Answered}
 use Rattle.best.specs.Scratch.{scoreBy, itemsOf, Posed}
 use Rattle.standing.specs.declared.Standing.{Standing}
 use Rattle.best.proofs.Listing.{posed, key-is}
 
 module _ (q t : Tree) (table : Table) where
-  pub best-refused : (xs : List ℕ) → length xs < scratchNeeded → Answered q t table xs xs refused
+  pub best-refused : (xs : List ℕ) → length xs < scratchNeeded → Answered q t table xs xs tooShort
   unfolding bestOf scratchAfter
   best-refused xs h = record { answer = rw (lt-ltb (length xs) scratchNeeded h); scratch = rw (lt-ltb (length xs) scratchNeeded h) }
 

@@ -34,12 +34,12 @@ accepted k = record { answer = Accepted; total = natAbs (k .total); chain = tab 
 abbrev pub scratchNeeded : ℕ
 scratchNeeded = 4096
 
-abbrev pub refused : Best
-refused = record { answer = Refused ScratchShort Nothing; total = 0; chain = replicate 64 false }
+abbrev pub tooShort : Best
+tooShort = record { answer = Refused ScratchShort Nothing; total = 0; chain = replicate 64 false }
 
 -- What is answered on a scratch of so many numbers.
 unfoldable pub bestOf : List ℕ → List ℕ → List Row → ℕ → Best
-bestOf Q T rows room = cond (ltb room scratchNeeded) refused (accepted (keyOf Q T rows))
+bestOf Q T rows room = cond (ltb room scratchNeeded) tooShort (accepted (keyOf Q T rows))
 
 -- A refused call leaves the scratch as it was, and an accepted one leaves all of it zero.
 unfoldable pub scratchAfter : List ℕ → List ℕ

@@ -5,6 +5,7 @@ mod scratch;
 use answer::Answer;
 use answer::Ground;
 use answer::Place;
+use answer::refused;
 use keys::clear;
 use keys::unpacked;
 use scratch::solve;
@@ -13,7 +14,7 @@ use table::Table;
 use tree::Tree;
 ghost use mathlib.Core.Path.{_≡_};
 ghost use Rattle.table.specs.Table.{Kept};
-ghost use Rattle.best.specs.Best.{refused, Answered};
+ghost use Rattle.best.specs.Best.{tooShort, Answered};
 
 // How many numbers the scratch must have.
 const SCRATCH: usize = 4096;
@@ -27,13 +28,10 @@ pub struct Best {
 
 // Ground 21.
 fn too_short() -> Best
-    ensures { λ r. ⌜ r ≡ refused ⌝ }
+    ensures { λ r. ⌜ r ≡ tooShort ⌝ }
 {
     Best {
-        answer: Answer::Refused {
-            ground: Ground::ScratchShort,
-            place: Place::Nothing,
-        },
+        answer: refused(Ground::ScratchShort, Place::Nothing),
         total: 0,
         chain: [false; 64],
     }

@@ -3,6 +3,7 @@ use super::Session;
 use answer::Answer;
 use answer::Ground;
 use answer::Place;
+use answer::refused;
 use table::in_range;
 use table::summary_at;
 ghost use mathlib.Core.Path.{_≡_};
@@ -34,10 +35,7 @@ fn judge_count(changes: usize) -> Answer
     ensures { λ r. ⌜ r ≡ countAnswer changes ⌝ }
 {
     if 1000000 <= changes {
-        return Answer::Refused {
-            ground: Ground::ChangeLimit,
-            place: Place::Nothing,
-        };
+        return refused(Ground::ChangeLimit, Place::Nothing);
     }
     Answer::Accepted
 }
@@ -57,16 +55,10 @@ pub fn judge_rescore(s: Session, number: usize, score: i32) -> Answer
     ensures { λ r. ⌜ r ≡ grounds (view s) (rescore number score) ⌝ }
 {
     if !given_out(s.table.seeds, number) {
-        return Answer::Refused {
-            ground: Ground::NumberNotGiven,
-            place: Place::Nothing,
-        };
+        return refused(Ground::NumberNotGiven, Place::Nothing);
     }
     if !in_range(score) {
-        return Answer::Refused {
-            ground: Ground::ScoreRange,
-            place: Place::Seed(number),
-        };
+        return refused(Ground::ScoreRange, Place::Seed(number));
     }
     judge_count(s.changes)
 }
@@ -77,17 +69,11 @@ pub fn judge_move(s: Session, number: usize, to: bool) -> Answer
     ensures { λ r. ⌜ r ≡ moveAnswer (view s) number to ⌝ }
 {
     if !given_out(s.table.seeds, number) {
-        return Answer::Refused {
-            ground: Ground::NumberNotGiven,
-            place: Place::Nothing,
-        };
+        return refused(Ground::NumberNotGiven, Place::Nothing);
     }
     let row = summary_at(s.table, number - 1);
     if same(row.present, to) {
-        return Answer::Refused {
-            ground: Ground::PresenceAsAsked,
-            place: Place::Nothing,
-        };
+        return refused(Ground::PresenceAsAsked, Place::Nothing);
     }
     judge_count(s.changes)
 }

@@ -6,6 +6,7 @@ use adding::with_seed;
 use answer::Answer;
 use answer::Ground;
 use answer::Place;
+use answer::refused;
 use area::Listed;
 use best::Best;
 use changing::changed;
@@ -167,10 +168,7 @@ impl Session {
     {
         if !given_out(self.table.seeds, number) {
             return Listed {
-                answer: Answer::Refused {
-                    ground: Ground::NumberNotGiven,
-                    place: Place::Nothing,
-                },
+                answer: refused(Ground::NumberNotGiven, Place::Nothing),
                 count: 0,
             };
         }
@@ -192,10 +190,7 @@ impl Session {
     {
         if !given_out(self.table.seeds, number) {
             return Shown {
-                answer: Answer::Refused {
-                    ground: Ground::NumberNotGiven,
-                    place: Place::Nothing,
-                },
+                answer: refused(Ground::NumberNotGiven, Place::Nothing),
                 row: Summary {
                     score: 0,
                     last: Pair { q: 0, t: 0 },

@@ -1,6 +1,7 @@
 // Two texts read, Q before T.
 use answer::Answer;
 use answer::Place;
+use answer::refused;
 use tree::Tree;
 use tree::read;
 ghost use mathlib.Core.Path.{_≡_};
@@ -20,10 +21,7 @@ fn in_t(answer: Answer) -> Answer
     match answer {
         Answer::Accepted => answer,
         Answer::Refused { ground, place } => match place {
-            Place::ByteInQ(k) => Answer::Refused {
-                ground,
-                place: Place::ByteInT(k),
-            },
+            Place::ByteInQ(k) => refused(ground, Place::ByteInT(k)),
             _ => answer,
         },
     }

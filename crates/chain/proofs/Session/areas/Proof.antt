@@ -10,8 +10,11 @@ use Rattle.chain.proofs.Session.areas.Tie as tie
 given-out-requires : tie.Need-given-out-requires
 given-out-requires c κs = search needs
 
+refused-requires : tie.Need-refused-requires
+refused-requires c κs = search needs
+
 returns : tie.Need-returns
-returns c = lists-not _ _ (not-true _ (tested (c .before .given-out .ensures) (c .if1 .taken))) _
+returns c = rw (c .refused .ensures) (lists-not _ _ (not-true _ (tested (c .before .before .given-out .ensures) (c .before .if1 .taken))) _)
 
 sub-areas : tie.Need-sub-areas
 sub-areas c = given-out _ _ (tested (c .before .given-out .ensures) (c .if1 .left)) .low
@@ -27,4 +30,4 @@ returns-2 c = lists _ _ (not-false _ (tested (c .before .before .before .before 
 
 pub areas-spec : {M : Type 1} → statement M
 areas-spec =
-    tie.close (tie.spec given-out-requires returns sub-areas areas-requires same-length returns-2)
+    tie.close (tie.spec given-out-requires refused-requires returns sub-areas areas-requires same-length returns-2)

@@ -10,20 +10,26 @@ use Rattle.chain.proofs.judging.judge_rescore.Tie as tie
 given-out-requires : tie.Need-given-out-requires
 given-out-requires c κs = search needs
 
+refused-requires : tie.Need-refused-requires
+refused-requires c κs = search needs
+
 returns : tie.Need-returns
 unfolding grounds
 returns c =
-    let start = c .before .before in
-    rw (rows-length (start .args .s .table), tested (c .before .given-out .ensures) (c .if1 .taken))
+    let start = c .before .before .before in
+    rw (rows-length (start .args .s .table), tested (c .before .before .given-out .ensures) (c .before .if1 .taken)) (c .refused .ensures)
 
 in-range-requires : tie.Need-in-range-requires
 in-range-requires c κs = search needs
 
+refused-requires-2 : tie.Need-refused-requires-2
+refused-requires-2 c κs = search needs
+
 returns-2 : tie.Need-returns-2
 unfolding grounds
 returns-2 c =
-    let start = c .before .before .before .before in
-    rw (rows-length (start .args .s .table), tested (c .before .before .before .given-out .ensures) (c .before .before .if1 .left), tested (rw (toZ-ofZ (start .fits .score)) at (c .before .in-range .ensures)) (c .if2 .taken))
+    let start = c .before .before .before .before .before in
+    rw (rows-length (start .args .s .table), tested (c .before .before .before .before .given-out .ensures) (c .before .before .before .if1 .left), tested (rw (toZ-ofZ (start .fits .score)) at (c .before .before .in-range .ensures)) (c .before .if2 .taken)) (c .refused2 .ensures)
 
 judge-count-requires : tie.Need-judge-count-requires
 judge-count-requires c κs = search needs
@@ -39,8 +45,10 @@ judge-rescore-spec =
     tie.close
     (tie.spec
     given-out-requires
+    refused-requires
     returns
     in-range-requires
+    refused-requires-2
     returns-2
     judge-count-requires
     returns-3)
