@@ -13,7 +13,7 @@ use Rattle.seed.specs.declared.Pair.{Pair}
 use Rattle.area.specs.declared.Listed.{Listed}
 use Rattle.best.specs.declared.Best.{Best}
 use Rattle.plain.specs.Plain.{Writes}
-use Rattle.plain.specs.declared.Written.{Written}
+use Rattle.write.specs.declared.Written.{Written}
 use Rattle.chain.specs.State.{State, Outcome, rescore, withdraw, bringBack, add}
 use Rattle.demand.specs.History.{Event, stateOf}
 use Rattle.chain.specs.View.{view, Does}

@@ -30,8 +30,9 @@ use Rattle.seed.proofs.Tells.{Tells, tells-le, tells-lt, tells-eq, tells-and, t
 use Rattle.optimum.proofs.Booleans.{T-eq}
 use Rattle.best.specs.Best.{scratchNeeded, bestOf}
 use Rattle.best.specs.declared.Best.{Best}
-use Rattle.plain.specs.Plain.{plainOf, writtenOf}
-use Rattle.plain.specs.declared.Written.{Written}
+use Rattle.plain.specs.Plain.{plainOf}
+use Rattle.write.specs.Wrote.{writtenOf}
+use Rattle.write.specs.declared.Written.{Written}
 use Rattle.table.specs.Rows.{Row, rowOf, pairCount, givenOut, presentRows, inRange}
 use Rattle.adding.specs.Adding.{limitAnswer, nextAnswer}
 use Rattle.chain.specs.State.{State, decide, countAnswer, rescoreAnswer, rescore, moveAnswer, moveTo, addAnswer, add}
