@@ -1,4 +1,4 @@
--- The areas of a seed are the boxes of pairs whose gaps are the same. Assumes nothing.
+-- The areas of a seed are the boxes of pairs whose gaps are the same.
 use mathlib.Core.Path.{_≡_, refl, sym, _∙_}
 use mathlib.Core.Bool.{Bool, true, false}
 use mathlib.Core.Logic.{inl, inr, _≢_}

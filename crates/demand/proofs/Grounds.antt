@@ -22,9 +22,8 @@ use Rattle.tree.specs.Reading.{leavesOf}
 use Rattle.seed.specs.Area.{Box}
 use Rattle.judge.specs.Judge.{judgeOf}
 use Rattle.judge.specs.Grounds as seed
-use Rattle.area.specs.Listed.{listedOf}
 use Rattle.seed.specs.declared.Pair.{Pair}
-use Rattle.area.specs.declared.Listed.{Listed}
+use Rattle.area.proofs.AreaSteps as area
 use Rattle.judge.proofs.Grounds as judge
 use Rattle.seed.proofs.Tells.{Tells, tells-le, tells-lt, tells-eq, tells-and, tells-not}
 use Rattle.optimum.proofs.Booleans.{T-eq}
@@ -169,9 +168,8 @@ chain-decides s room =
     (ground _ (tells-lt room scratchNeeded) ScratchShort Nothing)
 
 listed-answer : (b : Bool) (boxes : List Box) (out : List ℕ) → listedIf b boxes out .answer ≡ given (not b) NumberNotGiven Nothing (given (ltb (length out) (length boxes * 4)) OutputShort Nothing Accepted)
-unfolding listedOf
 listed-answer false boxes out = refl
-listed-answer true boxes out = if-short (λ (x : Listed). x .answer) OutputShort (ltb (length out) (length boxes * 4)) _ _ refl refl
+listed-answer true boxes out = area.listed-answer boxes out
 
 pub areas-decides : (s : State) (k : ℕ) (out : List ℕ) → Decides (AreasSay s k (length out)) (listedIf (givenOut (length (s .rows)) k) (areasOf s k) out .answer)
 areas-decides s k out =
