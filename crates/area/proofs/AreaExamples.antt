@@ -1,14 +1,15 @@
--- Document 01's areas, and others at their edges, computed from the definitions. Assumes nothing.
+-- Document 01's areas, and others at their edges, computed from the definitions.
 use mathlib.Core.Path.{_≡_, refl}
 use mathlib.Core.List.{List, [], _∷_, map}
 use Prim.Native.Nat.{ℕ}
 use Rattle.answer.specs.declared.Ground.the-variants.{OutputShort}
 use Rattle.answer.specs.declared.Place.the-variants.{Nothing}
 use Rattle.answer.specs.declared.Answer.the-variants.{Accepted, Refused}
+use Rattle.write.specs.Wrote.{outputOf}
 use Rattle.tree.specs.Nested.{leaf}
 use Rattle.seed.specs.Tests.{every, above}
 use Rattle.seed.specs.AreaList.{side, level, fits, firstBelow, lastBelow, column, boxAt, begins, boxRow, boxes, areas, bytesOf}
-use Rattle.area.specs.Listed.{listedOf, writtenOf}
+use Rattle.area.specs.Listed.{listedOf}
 use Rattle.seed.specs.Pairs.{pairOf}
 use Rattle.seed.specs.declared.Pair.{Pair}
 
@@ -58,12 +59,12 @@ short = 7 ∷ 7 ∷ 7 ∷ 7 ∷ 7 ∷ 7 ∷ 7 ∷ []
 
 accepted :
     (listedOf (areas A B (pairOf 3 1 ∷ pairOf 5 4 ∷ [])) room ≡ record { answer = Accepted; count = 2 })
-    × (writtenOf (areas A B (pairOf 3 1 ∷ pairOf 5 4 ∷ [])) room ≡ 0 ∷ 2 ∷ 0 ∷ 0 ∷ 4 ∷ 4 ∷ 2 ∷ 3 ∷ 7 ∷ [])
-unfolding leaf every above side level fits firstBelow lastBelow column boxAt begins boxRow boxes areas bytesOf listedOf writtenOf
+    × (outputOf (bytesOf (areas A B (pairOf 3 1 ∷ pairOf 5 4 ∷ []))) room ≡ 0 ∷ 2 ∷ 0 ∷ 0 ∷ 4 ∷ 4 ∷ 2 ∷ 3 ∷ 7 ∷ [])
+unfolding leaf every above side level fits firstBelow lastBelow column boxAt begins boxRow boxes areas bytesOf listedOf outputOf
 accepted = (refl, refl)
 
 refused :
     (listedOf (areas A B (pairOf 3 1 ∷ pairOf 5 4 ∷ [])) short ≡ record { answer = Refused OutputShort Nothing; count = 0 })
-    × (writtenOf (areas A B (pairOf 3 1 ∷ pairOf 5 4 ∷ [])) short ≡ short)
-unfolding leaf every above side level fits firstBelow lastBelow column boxAt begins boxRow boxes areas bytesOf listedOf writtenOf
+    × (outputOf (bytesOf (areas A B (pairOf 3 1 ∷ pairOf 5 4 ∷ []))) short ≡ short)
+unfolding leaf every above side level fits firstBelow lastBelow column boxAt begins boxRow boxes areas bytesOf listedOf outputOf
 refused = (refl, refl)

@@ -1,5 +1,4 @@
 -- The parts of its memory that listing the areas hands on: of trees that were read, of lists that hold a seed, and of arrays of gaps.
--- Assumes nothing.
 use mathlib.Core.Path.{_≡_, sym, ap, subst, _∙_}
 use mathlib.Core.List.{List}
 use Prim.Native.Nat.{ℕ, _≤_}

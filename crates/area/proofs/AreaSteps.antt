@@ -1,4 +1,4 @@
--- What one step of the code that lists areas does to its counts and searches. Assumes nothing.
+-- What one step of the code that lists areas does to its counts and searches.
 use mathlib.Core.Path.{_≡_, refl, sym, ap, _∙_}
 use mathlib.Core.Bool.{Bool, true, false, not, cond, false≢true}
 use mathlib.Core.Logic.{inl, inr}
@@ -6,20 +6,24 @@ use mathlib.Core.List.{List, [], _∷_, _++_}
 use Prim.Native.Nat.{ℕ, zero, suc, _+_, _*_, _-_, _≤_, _<_}
 use native.Mathlib.Omega.{arith}
 use native.Mathlib.Decide.{ℕ-discrete}
-use native.Mathlib.Nat.{add-zero}
 use native.Mathlib.Numerals.{add-one}
-use lib.ListN.{length, getD, set, length-append}
-use lib.Dec.{eqb}
+use lib.ListN.{length, getD, length-append}
+use lib.Dec.{eqb, ltb}
 use lib.Seq.{sets, length-sets}
-use borrow.Author.Tests.{eq-eqb, ne-eqb, lt-ltb, le-ltb}
+use borrow.Author.Tests.{eq-eqb, ne-eqb, lt-ltb, le-ltb, le-leb, lt-leb}
+use Rattle.answer.specs.Answer.{given}
 use Rattle.answer.specs.declared.Ground.the-variants.{OutputShort}
 use Rattle.answer.specs.declared.Place.the-variants.{Nothing}
 use Rattle.answer.specs.declared.Answer.the-variants.{Accepted, Refused}
+use Rattle.write.specs.Puts.{Puts}
+use Rattle.write.proofs.Sets.{sets-append}
+use Rattle.write.proofs.Puts.{puts-output}
+use Rattle.write.proofs.Wrote.{output-all, output-none}
 use Rattle.tree.proofs.Leaves.{lt-or-le}
 use Rattle.seed.specs.Area.{Box}
 use Rattle.seed.specs.AreaList.{firstBelow, lastBelow, column, boxAt, begins, boxRow, boxes, bytesOf}
 use Rattle.area.specs.Gaps.{meets, like, meet, boxFrom, boxesBelow}
-use Rattle.area.specs.Listed.{listedOf, writtenOf, ListedRight}
+use Rattle.area.specs.Listed.{listedOf, ListedRight}
 
 -- Two gaps compared.
 pub meets-not : (x y : ℕ) → (x ≡ y → ⊥) → meets x y ≡ false
@@ -90,10 +94,13 @@ module _ (g h : List ℕ) (a c : ℕ) (first : c ≡ firstBelow (like (getD g a 
         (b d k : ℕ) (o after : List ℕ)
         → b ≡ lastBelow (like (getD h c 0) g) (length g)
         → d ≡ lastBelow (like (getD g a 0) h) (length h)
-        → after ≡ sets o (k * 4) (a ∷ b ∷ c ∷ d ∷ [])
+        → (k + length (boxFrom g h a)) * 4 ≤ length o
+        → {next : ℕ}
+        → Puts (a ∷ b ∷ c ∷ d ∷ []) (k * 4) o after next
         → (k + 1 ≡ k + length (boxFrom g h a)) × (after ≡ sets o (k * 4) (bytesOf (boxFrom g h a)))
     unfolding bytesOf
-    row-written b d k o after eb ed f = (omega (arith, row-length), rw (row-one b d e eb ed) f)
+    row-written b d k o after eb ed room put =
+        (omega (arith, row-length), rw (row-one b d e eb ed) (puts-output (record { fits = omega (arith, row-length) }) put))
 
 -- The bytes of boxes.
 bytes-append : (xs ys : List Box) → bytesOf (xs ++ ys) ≡ bytesOf xs ++ bytesOf ys
@@ -101,14 +108,10 @@ unfolding bytesOf
 bytes-append [] ys = refl
 bytes-append (x ∷ xs) ys = ap (λ (r : List ℕ). x .a ∷ x .b ∷ x .c ∷ x .d ∷ r) (bytes-append xs ys)
 
-bytes-length : (xs : List Box) → length (bytesOf xs) ≡ length xs * 4
+pub bytes-length : (xs : List Box) → length (bytesOf xs) ≡ length xs * 4
 unfolding bytesOf
 bytes-length [] = refl
 bytes-length (x ∷ xs) = omega (arith, bytes-length xs)
-
-sets-append : (vs ws l : List ℕ) (i : ℕ) → sets l i (vs ++ ws) ≡ sets (sets l i vs) (i + length vs) ws
-sets-append [] ws l i = rw (add-zero i)
-sets-append (v ∷ vs) ws l i = let z : i + suc (length vs) ≡ suc i + length vs = omega arith in rw z (sets-append vs ws (set l i v) (suc i))
 
 -- The boxes of the rows below a, and one row more.
 module _ (g h : List ℕ) where
@@ -155,27 +158,27 @@ module _ (g h : List ℕ) where
   count-all a n k e f = e ∙ ap (λ (x : ℕ). length (boxesBelow g h x)) f
 
 -- The boxes of the rows below a are written, k of them.
-pub record Written (g h o₀ : List ℕ) (a k : ℕ) (o : List ℕ) : Type 0 where
+pub record WrittenBelow (g h o₀ : List ℕ) (a k : ℕ) (o : List ℕ) : Type 0 where
   pub count : k ≡ length (boxesBelow g h a)
   pub out : o ≡ sets o₀ 0 (bytesOf (boxesBelow g h a))
 
-pub write-start : {g h o : List ℕ} → Written g h o 0 0 o
+pub write-start : {g h o : List ℕ} → WrittenBelow g h o 0 0 o
 unfolding boxesBelow boxes bytesOf
 write-start = record { count = refl; out = refl }
 
-module _ {g h o₀ : List ℕ} {a k : ℕ} {o : List ℕ} (p : Written g h o₀ a k o) where
+module _ {g h o₀ : List ℕ} {a k : ℕ} {o : List ℕ} (p : WrittenBelow g h o₀ a k o) where
   pub write-length : length o ≡ length o₀
   write-length = ap length (p .out) ∙ length-sets o₀ 0 (bytesOf (boxesBelow g h a))
 
   pub write-room : a < length g → length (boxesBelow g h (length g)) * 4 ≤ length o₀ → (k ≤ a) × ((k + length (boxFrom g h a)) * 4 ≤ length o)
   write-room u v = omega (arith, p .count, below-few g h a, count-next g h a k _ (p .count) refl, below-grow g h (a + 1) (length g) (omega arith), write-length)
 
-  pub write-next : (r : ℕ) (after : List ℕ) → r ≡ k + length (boxFrom g h a) → after ≡ sets o (k * 4) (bytesOf (boxFrom g h a)) → Written g h o₀ (a + 1) r after
+  pub write-next : (r : ℕ) (after : List ℕ) → r ≡ k + length (boxFrom g h a) → after ≡ sets o (k * 4) (bytesOf (boxFrom g h a)) → WrittenBelow g h o₀ (a + 1) r after
   write-next r after e f =
       let z : k * 4 ≡ 0 + length (bytesOf (boxesBelow g h a)) = omega (arith, bytes-length (boxesBelow g h a), p .count) in
       record {
         count = e ∙ count-next g h a k _ (p .count) refl;
-        out = f ∙ rw (p .out, z, below-next g h a, bytes-append) (sym (sets-append (bytesOf (boxesBelow g h a)) (bytesOf (boxFrom g h a)) o₀ 0));
+        out = f ∙ rw (p .out, z, below-next g h a, bytes-append) (sets-append o₀ 0 (bytesOf (boxesBelow g h a)) (bytesOf (boxFrom g h a)));
       }
 
   pub write-all : a ≡ length g → o ≡ sets o₀ 0 (bytesOf (boxesBelow g h (length g)))
@@ -184,13 +187,22 @@ module _ {g h o₀ : List ℕ} {a k : ℕ} {o : List ℕ} (p : Written g h o₀ 
 -- The answer, by whether the output has room.
 module _ (xs : List Box) (o : List ℕ) (k : ℕ) (e : k ≡ length xs) where
   pub list-refused : length o < k * 4 → ListedRight xs o (record { answer = Refused OutputShort Nothing; count = 0 }) o
-  unfolding listedOf writtenOf
+  unfolding listedOf
   list-refused h =
-      let g : length o < length xs * 4 = omega arith in
-      record { answer = rw (lt-ltb (length o) (length xs * 4) g); output = rw (lt-ltb (length o) (length xs * 4) g) }
+      let g : length o < length (bytesOf xs) = omega (arith, bytes-length xs) in
+      record { answer = rw (lt-leb _ _ g); output = output-none (bytesOf xs) o g }
 
   pub list-accepted : (after : List ℕ) → k * 4 ≤ length o → after ≡ sets o 0 (bytesOf xs) → ListedRight xs o (record { answer = Accepted; count = k }) after
-  unfolding listedOf writtenOf
+  unfolding listedOf
   list-accepted after h f =
-      let g : length xs * 4 ≤ length o = omega arith in
-      record { answer = rw (le-ltb (length o) (length xs * 4) g, e); output = rw (le-ltb (length o) (length xs * 4) g) f }
+      let g : length (bytesOf xs) ≤ length o = omega (arith, bytes-length xs) in
+      record { answer = rw (le-leb _ _ g, e); output = output-all (bytesOf xs) o g f }
+
+-- Ground 22 by the number of the areas.
+pub listed-answer : (xs : List Box) (o : List ℕ) → listedOf xs o .answer ≡ given (ltb (length o) (length xs * 4)) OutputShort Nothing Accepted
+unfolding listedOf
+listed-answer xs o =
+    elim (lt-or-le (length o) (length xs * 4)) [
+      | inl u ↦ rw (lt-ltb _ _ u, lt-leb (length (bytesOf xs)) (length o) (omega (arith, bytes-length xs)))
+      | inr u ↦ rw (le-ltb _ _ u, le-leb (length (bytesOf xs)) (length o) (omega (arith, bytes-length xs)))
+    ]

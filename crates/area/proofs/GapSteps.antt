@@ -1,4 +1,4 @@
--- What one step of the code that finds gaps does to its counts. Assumes nothing.
+-- What one step of the code that finds gaps does to its counts.
 use mathlib.Core.Path.{_≡_, refl, sym, ap, _∙_}
 use mathlib.Core.Logic.{inl, inr}
 use mathlib.Core.List.{List, [], _∷_, _++_, append-assoc}

@@ -1,5 +1,5 @@
 -- A pair fits a seed exactly if the gaps of its nodes are the same and not 0: since the nodes rise, those left of a node come first and those
--- in its subtree next, and of the later ones the nearest above it decides which others are above it. Assumes nothing.
+-- in its subtree next, and of the later ones the nearest above it decides which others are above it.
 use mathlib.Core.Path.{_≡_, refl, sym, ap, subst, _∙_}
 use mathlib.Core.Bool.{cond}
 use mathlib.Core.Logic.{_⊎_, inl, inr, _↔_, _≢_}

@@ -17,8 +17,9 @@ use Rattle.table.specs.Rows.{noRow}
 use Rattle.table.specs.Table.{nodesOf, pairsAt, rowAt, rowsOf, Kept}
 use Rattle.table.specs.declared.Table.{Table}
 use Rattle.table.proofs.Tables.{rows-length, row-there, row-past}
-use Rattle.area.specs.Listed.{listedOf, writtenOf, ListedRight}
+use Rattle.area.specs.Listed.{ListedRight}
 use Rattle.area.specs.declared.Listed.{Listed}
+use Rattle.area.proofs.AreaSteps.{list-accepted}
 
 -- ---- no seed
 
@@ -47,10 +48,8 @@ unfolding areas
 no-areas Q T = no-boxes (fits Q T []) (nothing-fits Q T) (length Q) (length T) (length Q)
 
 pub listed-none : (q t : Tree) (table : Table) (at : ℕ) (out : List ℕ) → table .seeds ≤ at → ListedRight (areas (leavesOf q) (leavesOf t) (getD (rowsOf table) at noRow .pairs)) out (record { answer = Accepted; count = 0 }) out
-unfolding listedOf writtenOf bytesOf
-listed-none q t table at out l =
-    let room = le-ltb (length out) 0 (omega arith) in
-    rw (row-past table at l, no-areas (leavesOf q) (leavesOf t)) (record { answer = rw room; output = rw room })
+unfolding bytesOf
+listed-none q t table at out l = rw (row-past table at l, no-areas (leavesOf q) (leavesOf t)) (list-accepted [] out 0 refl out (omega arith) refl)
 
 -- ---- the seed at a place
 

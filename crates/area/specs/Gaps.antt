@@ -1,4 +1,4 @@
--- The gaps of a seed in one tree, by which its open areas are found: inner definitions of the code. Assumes nothing.
+-- The gaps of a seed in one tree, by which its open areas are found: inner definitions of the code.
 use mathlib.Core.Bool.{Bool, cond, not, _&&_}
 use mathlib.Core.List.{List, [], _∷_, _++_}
 use Prim.Native.Nat.{ℕ, _+_, _-_}

@@ -9,8 +9,8 @@ use seed::side;
 use table::Table;
 use table::nodes_of;
 use tree::Tree;
+use write::put_word;
 ghost use mathlib.Core.Path.{_≡_};
-ghost use mathlib.Core.List.{[], _∷_};
 ghost use Prim.Native.Nat.{_+_, _*_, _≤_, _<_};
 ghost use lib.ListN.{length};
 ghost use lib.Seq.{sets};
@@ -152,17 +152,6 @@ fn count(g: &[usize], h: &[usize]) -> usize
     count
 }
 
-// The four bytes of an area.
-fn put(out: &mut [u8], at: usize, a: u8, b: u8, c: u8, d: u8)
-    requires { ⌜ at + 4 ≤ length (now out) ⌝ }
-    ensures { λ r. ⌜ now (out .exit) ≡ sets (now (out .entry)) at (a ∷ b ∷ c ∷ d ∷ []) ⌝ }
-{
-    out[at] = a;
-    out[at + 1] = b;
-    out[at + 2] = c;
-    out[at + 3] = d;
-}
-
 // Writes the area that begins at node a of Q, if one does, behind the count areas before it, and answers how many there are then.
 fn write_row(g: &[usize], h: &[usize], out: &mut [u8], a: usize, count: usize) -> usize
     requires { ⌜ (a < length (now g)) × (length (now g) ≤ 256) × (length (now h) ≤ 256) × (count ≤ a) × ((count + length (gaps.boxFrom (now g) (now h) a)) * 4 ≤ length (now out)) ⌝ }
@@ -174,7 +163,8 @@ fn write_row(g: &[usize], h: &[usize], out: &mut [u8], a: usize, count: usize) -
     }
     let b = last_like(h[c], g);
     let d = last_like(g[a], h);
-    put(out, count * 4, a as u8, b as u8, c as u8, d as u8);
+    let bytes = [a as u8, b as u8, c as u8, d as u8];
+    put_word(out, count * 4, &bytes[..]);
     count + 1
 }
 

@@ -7,7 +7,7 @@ use Rattle.answer.specs.declared.Answer.{Answer}
 use Rattle.answer.specs.declared.Answer.the-variants.{Accepted, Refused}
 use Rattle.area.specs.declared.Listed.{Listed}
 use Rattle.best.specs.declared.Best.{Best}
-use Rattle.plain.specs.declared.Written.{Written}
+use Rattle.write.specs.declared.Written.{Written}
 use Rattle.chain.specs.State.{State}
 use Rattle.chain.specs.Acts.{Act, grounds, after}
 use Rattle.chain.specs.View.{view, Sound, Does}

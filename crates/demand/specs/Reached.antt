@@ -6,7 +6,7 @@ use lib.ListN.{length}
 use Rattle.answer.specs.declared.Answer.{Answer}
 use Rattle.area.specs.declared.Listed.{Listed}
 use Rattle.best.specs.declared.Best.{Best}
-use Rattle.plain.specs.declared.Written.{Written}
+use Rattle.write.specs.declared.Written.{Written}
 use Rattle.chain.specs.Acts.{Act, bestChain, listAreas, writeDeck, showRow}
 use Rattle.chain.specs.View.{view, Does}
 use Rattle.chain.specs.Opening.{Outcome, Opens}

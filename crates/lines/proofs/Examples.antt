@@ -1,4 +1,4 @@
--- Printed lines, computed from the definitions. Assumes nothing.
+-- Printed lines, computed from the definitions.
 use mathlib.Core.Path.{_≡_, refl}
 use mathlib.Core.Bool.{true, false}
 use mathlib.Core.List.{[], _∷_}
@@ -7,12 +7,8 @@ use Rattle.answer.specs.Answer.{said}
 use Rattle.answer.specs.declared.Ground.the-variants.{TextLength, NeverClosed, PairNeverReached, BorderUnpaired}
 use Rattle.answer.specs.declared.Place.the-variants.{ByteInQ, ByteInT, Seed, Nothing}
 use Rattle.answer.specs.declared.Answer.the-variants.{Accepted, Refused}
-use Rattle.lines.specs.Lines.{bytes, digits, decimal, scoreLine, member, members, chainLine, resultLines, placed, refusalLine}
-
--- Numbers in decimal.
-pub numbers-written : decimal 0 ∷ decimal 10 ∷ decimal 909 ∷ decimal 18446744073709551615 ∷ [] ≡ bytes "0" ∷ bytes "10" ∷ bytes "909" ∷ bytes "18446744073709551615" ∷ []
-unfolding digits
-numbers-written = refl
+use Rattle.write.specs.Decimal.{bytes, digits}
+use Rattle.lines.specs.Lines.{scoreLine, member, members, chainLine, resultLines, placed, refusalLine}
 
 -- Document 01's deck example, and a chain without seeds.
 pub results-printed : resultLines 5 (true ∷ true ∷ replicate 62 false) ∷ resultLines 0 (replicate 64 false) ∷ [] ≡ bytes "score 5\nchain 1 2\n" ∷ bytes "score 0\nchain\n" ∷ []

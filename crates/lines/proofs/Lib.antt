@@ -1,5 +1,4 @@
-pub mod Decimals
 pub mod Lengths
 pub mod Members
-pub mod Outputs
+pub mod Printed
 pub mod Examples

@@ -1,6 +1,5 @@
 // The printed lines of a result and of a refusal.
 mod line;
-mod put;
 
 use answer::Answer;
 use line::put_refusal;

@@ -14,10 +14,12 @@ use Rattle.seed.specs.declared.Pair.{Pair}
 use Rattle.table.specs.Rows.{Row}
 use Rattle.deck.specs.Deck.{SeedRecord, PairRecord, chainsOf}
 use Rattle.deck.proofs.Lists.{map-append, flatten-more}
-use Rattle.plain.specs.Plain.{bytes16, bytes32, seedBytes, plainChain, plainPairs, plainSeeds, deckOf, plainOf, writtenOf, outputOf, Writes}
+use Rattle.write.proofs.Sets.{sets-after}
+use Rattle.write.proofs.Wrote.{wrote-none, wrote-all}
+use Rattle.plain.specs.Plain.{bytes16, bytes32, seedBytes, plainChain, plainPairs, plainSeeds, deckOf, plainOf, Writes}
 use Rattle.plain.specs.Writing.{sizeOf, seedPart, pairPart}
 use Rattle.plain.specs.declared.size.Size.{Size}
-use Rattle.plain.proofs.Writing.{put-after, chain-length, pair-part-length}
+use Rattle.plain.proofs.Writing.{chain-length, pair-part-length}
 
 -- The seed records and the pair records with one seed more.
 pub seeds-append : (k : ℕ) (rs qs : List Row) → plainSeeds k (rs ++ qs) ≡ plainSeeds k rs ++ plainSeeds (k + length (flatten (chainsOf rs))) qs
@@ -103,20 +105,13 @@ module _ (rows : List Row) (size : Size) (is : size ≡ sizeOf rows) where
   length-is = omega (arith, seeds-is, pairs-is, plain-length rows)
 
   pub writes-none : (out : List ℕ) → length out < 4 + 6 * size .seeds + 4 * size .pairs → Writes rows out out (record { answer = Refused OutputShort Nothing; length = 0 })
-  unfolding writtenOf outputOf
-  writes-none out h = let l : length out < length (plainOf rows) = omega (arith, length-is) in record { answers = rw (lt-leb _ _ l); leaves = rw (lt-leb _ _ l) }
+  writes-none out h = wrote-none (plainOf rows) out (omega (arith, length-is))
 
   one-piece : (out m1 m2 m3 : List ℕ) → m1 ≡ sets out 0 (counts (size .seeds) (size .pairs)) → m2 ≡ sets m1 4 (seedPart rows) → m3 ≡ sets m2 (4 + 6 * size .seeds) (pairPart (plainPairs 1 (chainsOf rows))) → m3 ≡ sets out 0 (plainOf rows)
   one-piece out m1 m2 m3 a b c =
-      let front = put-after out 0 (counts (size .seeds) (size .pairs)) (seedPart rows) a b (omega (arith, counts-length (size .seeds) (size .pairs))) in
-      put-after out 0 (counts (size .seeds) (size .pairs) ++ seedPart rows) (pairPart (plainPairs 1 (chainsOf rows))) front c (omega (arith, seeds-is, front-length (size .seeds) (size .pairs) rows))
+      let front = sets-after out 0 (counts (size .seeds) (size .pairs)) (seedPart rows) a b (omega (arith, counts-length (size .seeds) (size .pairs))) in
+      sets-after out 0 (counts (size .seeds) (size .pairs) ++ seedPart rows) (pairPart (plainPairs 1 (chainsOf rows))) front c (omega (arith, seeds-is, front-length (size .seeds) (size .pairs) rows))
       ∙ ap (sets out 0) (ap₂ (λ (s k : ℕ). counts s k ++ seedPart rows ++ pairPart (plainPairs 1 (chainsOf rows))) seeds-is pairs-is ∙ sym (plain-parts rows))
 
   pub writes-all : (out m1 m2 m3 : List ℕ) → 4 + 6 * size .seeds + 4 * size .pairs ≤ length out → m1 ≡ sets out 0 (counts (size .seeds) (size .pairs)) → m2 ≡ sets m1 4 (seedPart rows) → m3 ≡ sets m2 (4 + 6 * size .seeds) (pairPart (plainPairs 1 (chainsOf rows))) → Writes rows out m3 (record { answer = Accepted; length = 4 + 6 * size .seeds + 4 * size .pairs })
-  unfolding writtenOf outputOf
-  writes-all out m1 m2 m3 h a b c =
-      let l : length (plainOf rows) ≤ length out = omega (arith, length-is) in
-      record {
-        answers = rw (le-leb _ _ l) (ap (λ (n : ℕ). record { answer = Accepted; length = n }) length-is);
-        leaves = rw (le-leb _ _ l) (one-piece out m1 m2 m3 a b c ∙ sets-eq (plainOf rows) out 0 (omega arith) ∙ rw (zero-add (length (plainOf rows))));
-      }
+  writes-all out m1 m2 m3 h a b c = wrote-all (plainOf rows) out m3 _ length-is (omega (arith, length-is)) (one-piece out m1 m2 m3 a b c)

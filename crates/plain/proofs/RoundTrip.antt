@@ -16,12 +16,13 @@ use Rattle.table.specs.Table.{rowAt, rowsOf, Laid}
 use Rattle.table.specs.declared.Table.{Table}
 use Rattle.table.proofs.Tables.{rows-length, row-there, pairs-some}
 use Rattle.deck.specs.Deck.{number32, SeedRecord, PairRecord, seedRecord, seedCount, seedRecords, pairRecords, recordOf, allIn, walks, settled, reading, rowsBy, chainsOf}
-use Rattle.plain.specs.Plain.{deckOf, plainPairs, plainSeeds, plainOf, All, RowInLimits, InLimits, writtenOf, outputOf, Writes}
+use Rattle.plain.specs.Plain.{deckOf, plainPairs, plainSeeds, plainOf, All, RowInLimits, InLimits, Writes}
 use Rattle.deck.specs.Deck.Reading.{accepted}
 use Rattle.deck.specs.Handed.{rowsIn, Reads}
 use Rattle.deck.specs.Grounds.{Ended}
 use Rattle.deck.specs.declared.DeckRead.{DeckRead}
-use Rattle.plain.specs.declared.Written.{Written}
+use Rattle.write.specs.declared.Written.{Written}
+use Rattle.write.proofs.Wrote.{wrote-front}
 use Rattle.deck.proofs.Numbers.{Bytes, number32-below, signed-small}
 use Rattle.deck.proofs.Counting.{all-reached}
 use Rattle.deck.proofs.Walks.{counted-walked}
@@ -90,16 +91,8 @@ read-written d rows r before after w e s x =
     subst (λ (l : List Row). Writes l before after w) (ap presentRows (s .rows) ∙ reading-present d ∙ ap rowsIn e) x
 
 -- Read, written into an output that has room, and read again: the same seeds.
-written-front : (rows : List Row) (before after : List ℕ) (w : Written) → length (plainOf rows) ≤ length before → Writes rows before after w → take (w .length) after ≡ plainOf rows
-unfolding writtenOf outputOf
-written-front rows before after w h x =
-    let yes = le-leb (length (plainOf rows)) (length before) h in
-    let n : w .length ≡ length (plainOf rows) = rw yes at (ap (λ (v : Written). v .length) (x .answers)) in
-    let a : after ≡ plainOf rows ++ drop (length (plainOf rows)) before = rw yes at (x .leaves) in
-    ap₂ take n a ∙ take-at (plainOf rows) (drop (length (plainOf rows)) before) (length (plainOf rows)) refl
-
 pub read-write-read : (d : List ℕ) (rows : List Row) (r : DeckRead) (before after : List ℕ) (w : Written) → Bytes d → reading d ≡ accepted rows → Reads d r → length (plainOf rows) ≤ length before → Writes (presentRows (rowsOf (r .table))) before after w → reading (take (w .length) after) ≡ accepted rows
-read-write-read d rows r before after w b e s l x = ap reading (written-front rows before after w l (read-written d rows r before after w e s x)) ∙ read-again d rows b e
+read-write-read d rows r before after w b e s l x = ap reading (wrote-front (plainOf rows) before after w l (read-written d rows r before after w e s x)) ∙ read-again d rows b e
 
 -- The present rows of a filled table, with scores of 32 bits, are within the limits, so that what is written of them reads as them.
 present-each : (rows : List Row) → ((i : ℕ) → i < length rows → (0 < length (getD rows i noRow .pairs)) × (mag (getD rows i noRow .score) < 2147483648)) → All RowInLimits (presentRows rows)
@@ -122,4 +115,4 @@ module _ (t : Table) (h : Laid t) (small : (i : ℕ) → i < t .seeds → mag (g
       }
 
   pub write-read : (before after : List ℕ) (w : Written) → length (plainOf (presentRows (rowsOf t))) ≤ length before → Writes (presentRows (rowsOf t)) before after w → reading (take (w .length) after) ≡ accepted (presentRows (rowsOf t))
-  write-read before after w l x = ap reading (written-front (presentRows (rowsOf t)) before after w l x) ∙ read-plain (presentRows (rowsOf t)) table-limits
+  write-read before after w l x = ap reading (wrote-front (plainOf (presentRows (rowsOf t))) before after w l x) ∙ read-plain (presentRows (rowsOf t)) table-limits

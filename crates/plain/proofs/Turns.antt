@@ -18,7 +18,8 @@ use Rattle.deck.proofs.Lists.{map-append}
 use Rattle.plain.specs.Plain.{seedBytes, plainChain, plainPairs}
 use Rattle.plain.specs.Writing.{sizeOf, seedPart, pairPart}
 use Rattle.plain.specs.declared.size.Size.{Size}
-use Rattle.plain.proofs.Writing.{put-after, pair-part-append, pair-part-length}
+use Rattle.write.proofs.Sets.{sets-after}
+use Rattle.plain.proofs.Writing.{pair-part-append, pair-part-length}
 use Rattle.plain.proofs.Present.{pairTotal, presentBelow, below-more, below-same, below-few, seeds-few, pairs-few, count-more, total-more}
 use Rattle.plain.proofs.PlainForm.{seed-part-more, seed-part-length, pairs-more, pairs-count}
 
@@ -95,7 +96,7 @@ module _ (t : Table) (h : Laid t) {before out : List ℕ} {at k i : ℕ} (w : Se
           place = omega (arith, w .place, count-more t i e);
           number = omega (arith, w .number, total-more t h i l e);
           wrote =
-              put-after before 4 (seedPart rows) _ (w .wrote) a at-is
+              sets-after before 4 (seedPart rows) _ (w .wrote) a at-is
               ∙ ap (sets before 4)
               (ap₂ (λ (y : ℤ) (x : ℕ). seedPart rows ++ seedBytes (record { score = y; first = x })) f (w .number)
               ∙ sym (seed-part-more rows (rowAt t i))
@@ -138,7 +139,7 @@ module _ (t : Table) (start : ℕ) (h : Laid t) {before out : List ℕ} {at k i 
           place = omega (arith, w .place, total-more t h i l e);
           number = omega (arith, w .number, total-more t h i l e);
           wrote =
-              put-after before start (pairPart (plainPairs 1 cs)) _ (w .wrote) a at-is
+              sets-after before start (pairPart (plainPairs 1 cs)) _ (w .wrote) a at-is
               ∙ ap (sets before start)
               (ap (λ (x : ℕ). pairPart (plainPairs 1 cs) ++ pairPart (plainChain x (pairsAt t i))) (w .number)
               ∙ sym (ap pairPart (ap (plainPairs 1) more ∙ pairs-more 1 cs (pairsAt t i)) ∙ pair-part-append (plainPairs 1 cs) (plainChain (1 + length (flatten cs)) (pairsAt t i))));

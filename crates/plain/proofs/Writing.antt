@@ -17,14 +17,8 @@ use Rattle.plain.specs.Plain.{unsigned, bytes16, bytes32, seedBytes, pai
 use Rattle.plain.specs.Writing.{nextOf, pairPart}
 use Rattle.seed.proofs.PairLists.{count-first}
 use Rattle.seed.proofs.Tabs.{length-tab, getD-tab}
+use Rattle.write.proofs.Sets.{sets-after}
 use Rattle.deck.proofs.Lists.{map-append, flatten-append, flatten-more}
-
-sets-append : (l : List ℕ) (i : ℕ) (xs ys : List ℕ) → sets (sets l i xs) (i + length xs) ys ≡ sets l i (xs ++ ys)
-sets-append l i [] ys = rw (add-zero i)
-sets-append l i (x ∷ xs) ys = let e : i + suc (length xs) ≡ suc i + length xs = omega arith in rw e (sets-append (set l i x) (suc i) xs ys)
-
-pub put-after : (l : List ℕ) (i : ℕ) (xs ys : List ℕ) {m n : List ℕ} {j : ℕ} → m ≡ sets l i xs → n ≡ sets m j ys → j ≡ i + length xs → n ≡ sets l i (xs ++ ys)
-put-after l i xs ys a b e = b ∙ ap₂ (λ (x : List ℕ) (k : ℕ). sets x k ys) a e ∙ sets-append l i xs ys
 
 -- A seed record, written as three numbers of 16 bits.
 bytes16-length : (n : ℕ) → length (bytes16 n) ≡ 2
@@ -34,9 +28,9 @@ bytes16-length n = refl
 pub seed-put : (l : List ℕ) (at : ℕ) (z : ℤ) (first n : ℕ) {m1 m2 m3 : List ℕ} → n ≡ unsigned z → m1 ≡ sets l at (bytes16 (n / 65536)) → m2 ≡ sets m1 (at + 2) (bytes16 (n % 65536)) → m3 ≡ sets m2 (at + 4) (bytes16 first) → m3 ≡ sets l at (seedBytes (record { score = z; first = first }))
 unfolding seedBytes bytes32
 seed-put l at z first n e a b c =
-    let half = put-after l at (bytes16 (n / 65536)) (bytes16 (n % 65536)) a b (omega (arith, bytes16-length (n / 65536))) in
+    let half = sets-after l at (bytes16 (n / 65536)) (bytes16 (n % 65536)) a b (omega (arith, bytes16-length (n / 65536))) in
     let size = length-append (bytes16 (n / 65536)) (bytes16 (n % 65536)) in
-    put-after l at (bytes16 (n / 65536) ++ bytes16 (n % 65536)) (bytes16 first) half c (omega (arith, size, bytes16-length (n / 65536), bytes16-length (n % 65536)))
+    sets-after l at (bytes16 (n / 65536) ++ bytes16 (n % 65536)) (bytes16 first) half c (omega (arith, size, bytes16-length (n / 65536), bytes16-length (n % 65536)))
     ∙ rw e
 
 -- The bytes of records.
@@ -106,7 +100,7 @@ module _ (k : ℕ) (qs ts : List ℕ) (same : length ts ≡ length qs) where
   chain-more l at j next h f a b =
       let n : length (take j chain) ≡ j = length-take-le j chain (omega (arith, chain-size)) in
       let at-is : at + 4 * j ≡ at + length (pairPart (take j chain)) = omega (arith, pair-part-length (take j chain)) in
-      put-after l at (pairPart (take j chain)) _ a b at-is
+      sets-after l at (pairPart (take j chain)) _ a b at-is
       ∙ ap (sets l at) (ap (λ (x : ℕ). pairPart (take j chain) ++ pairBytes (recordAt j x)) f ∙ sym (part-more j h))
 
   pub chain-long : (l : List ℕ) (at j : ℕ) {m : List ℕ} → m ≡ sets l at (pairPart (take j chain)) → length m ≡ length l

@@ -1,21 +1,19 @@
--- The plain form (document 01, "The deck"): the bytes of present seeds, and what writing them promises (ground 22).
+-- The plain form (document 01, "The deck"): the bytes of present seeds, and what writing them promises.
 use mathlib.Core.Path.{_≡_}
 use mathlib.Core.Bool.{true, cond}
 use mathlib.Core.List.{List, [], _∷_, _++_, map, flatten}
 use Prim.Native.Nat.{ℕ, _+_, _-_, _/_, _%_, _≤_, _<_}
-use lib.ListN.{length, getD, drop}
+use lib.ListN.{length, getD}
 use lib.IntN.{ℤ, pos, negsuc}
 use lib.Signed.{mag}
-use lib.Dec.{ltb, leb}
-use Rattle.answer.specs.declared.Answer.the-variants.{Accepted, Refused}
-use Rattle.answer.specs.declared.Ground.the-variants.{OutputShort}
-use Rattle.answer.specs.declared.Place.the-variants.{Nothing}
+use lib.Dec.{ltb}
+use Rattle.write.specs.Wrote.{Wrote}
+use Rattle.write.specs.declared.Written.{Written}
 use Rattle.seed.specs.Tab.{tab}
 use Rattle.seed.specs.Pairs.{pairOf}
 use Rattle.seed.specs.declared.Pair.{Pair}
 use Rattle.table.specs.Rows.{Row}
 use Rattle.deck.specs.Deck.{SeedRecord, PairRecord, chainsOf}
-use Rattle.plain.specs.declared.Written.{Written}
 
 -- Two's complement of 32 bits: the number that stands for a score.
 unfoldable pub unsigned : ℤ → ℕ
@@ -54,20 +52,9 @@ plainSeeds k (r ∷ rs) = record { score = r .score; first = k } ∷ plainSeeds 
 unfoldable pub plainOf : List Row → List ℕ
 plainOf rows = deckOf (plainSeeds 1 rows) (plainPairs 1 (chainsOf rows))
 
--- What writing these bytes into so much room answers: their length, or ground 22 and 0.
-unfoldable pub writtenOf : List ℕ → ℕ → Written
-writtenOf bytes room =
-    cond (leb (length bytes) room) (record { answer = Accepted; length = length bytes })
-    (record { answer = Refused OutputShort Nothing; length = 0 })
-
--- The output then: the bytes, and as it was beyond them; as it was where there is not room.
-unfoldable pub outputOf : List ℕ → List ℕ → List ℕ
-outputOf bytes out = cond (leb (length bytes) (length out)) (bytes ++ drop (length bytes) out) out
-
 -- What writing the deck of these rows promises, of its answer and of the output before and after.
-pub record Writes (rows : List Row) (before after : List ℕ) (r : Written) : Type 0 where
-  pub answers : r ≡ writtenOf (plainOf rows) (length before)
-  pub leaves : after ≡ outputOf (plainOf rows) before
+abbrev pub Writes : List Row → List ℕ → List ℕ → Written → Type 0
+Writes rows before after r = Wrote (plainOf rows) before after r
 
 -- Each of the list has P.
 abbrev pub All : {A : Type 0} → (A → Type 0) → List A → Type 0

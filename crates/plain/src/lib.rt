@@ -11,15 +11,10 @@ use parts::put_seeds;
 use records::put_counts;
 use size::size_of;
 use table::Table;
+use write::Written;
 ghost use Rattle.table.specs.Rows.{presentRows};
 ghost use Rattle.table.specs.Table.{rowsOf, Laid};
 ghost use Rattle.plain.specs.Plain.{Writes};
-
-// What writing answers, and how many bytes it wrote.
-pub struct Written {
-    pub answer: Answer,
-    pub length: usize,
-}
 
 // Writes the present seeds in plain form, and answers how many bytes that is.
 pub fn write(table: Table, out: &mut [u8]) -> Written

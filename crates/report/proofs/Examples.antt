@@ -6,7 +6,7 @@ use Prim.Native.String.{String}
 use Rattle.answer.specs.declared.Ground.the-variants.{ScratchShort, OutputShort}
 use Rattle.answer.specs.declared.Place.the-variants.{Nothing}
 use Rattle.answer.specs.declared.Answer.the-variants.{Accepted, Refused}
-use Rattle.lines.specs.Lines.{bytes}
+use Rattle.write.specs.Decimal.{bytes}
 use Rattle.report.specs.Input.{readBytes, ahead, behind, textQ, textT, deckBytes}
 use Rattle.report.specs.Report.{shortage}
 

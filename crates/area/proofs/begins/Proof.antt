@@ -1,4 +1,4 @@
--- `area::begins` meets its contract. Assumes nothing.
+-- `area::begins` meets its contract.
 use mathlib.Core.Path.{sym, ap, _∙_}
 use borrow.Author.Needs.{needs}
 use mathlib.Core.Bool.{not}

@@ -1,4 +1,4 @@
--- `area::count` meets its contract: the areas of the rows passed are counted. Assumes nothing.
+-- `area::count` meets its contract: the areas of the rows passed are counted.
 use mathlib.Core.Path.{_≡_}
 use Prim.Native.Nat.{_≤_, _-_}
 use native.Mathlib.Omega.{arith}

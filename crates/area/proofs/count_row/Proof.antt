@@ -1,4 +1,4 @@
--- `area::count_row` meets its contract. Assumes nothing.
+-- `area::count_row` meets its contract.
 use mathlib.Core.Path.{sym, ap, _∙_}
 use lib.ListN.{length}
 use borrow.Author.Needs.{needs}

@@ -1,4 +1,4 @@
--- `area::first_like` meets its contract: no node before i has the gap. Assumes nothing.
+-- `area::first_like` meets its contract: no node before i has the gap.
 use mathlib.Core.Path.{_≡_, sym, _∙_}
 use Prim.Native.Nat.{_≤_, _-_}
 use native.Mathlib.Omega.{arith}

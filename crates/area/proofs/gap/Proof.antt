@@ -1,4 +1,4 @@
--- `area::gap` meets its contract: the gap is that of the nodes to come, with what is counted before them. Assumes nothing.
+-- `area::gap` meets its contract: the gap is that of the nodes to come, with what is counted before them.
 use mathlib.Core.Path.{sym}
 use Prim.Native.Nat.{_≤_, _-_}
 use native.Mathlib.Omega.{arith}

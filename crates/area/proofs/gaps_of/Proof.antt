@@ -1,4 +1,4 @@
--- `area::gaps_of` meets its contract: the gaps of the nodes below i are written. Assumes nothing.
+-- `area::gaps_of` meets its contract: the gaps of the nodes below i are written.
 use mathlib.Core.Path.{_≡_}
 use Prim.Native.Nat.{_≤_, _-_}
 use native.Mathlib.Omega.{arith}

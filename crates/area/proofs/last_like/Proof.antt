@@ -1,4 +1,4 @@
--- `area::last_like` meets its contract: no node from k on has the gap. Assumes nothing.
+-- `area::last_like` meets its contract: no node from k on has the gap.
 use mathlib.Core.Path.{_≡_, refl, sym, _∙_}
 use Prim.Native.Nat.{_≤_}
 use native.Mathlib.Omega.{arith}

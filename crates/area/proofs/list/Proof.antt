@@ -1,4 +1,4 @@
--- `area::list` meets its contract. Assumes nothing.
+-- `area::list` meets its contract.
 use native.Mathlib.Omega.{arith}
 use borrow.Author.Needs.{needs}
 use Rattle.area.proofs.AreaSteps.{count-small, list-refused, list-accepted}

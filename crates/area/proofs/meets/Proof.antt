@@ -1,4 +1,4 @@
--- `area::meets` meets its contract. Assumes nothing.
+-- `area::meets` meets its contract.
 use mathlib.Core.Path.{sym}
 use Rattle.area.proofs.AreaSteps.{meets-not, meets-if}
 use Rattle.area.proofs.meets.Statement.{statement}

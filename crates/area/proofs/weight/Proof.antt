@@ -1,4 +1,4 @@
--- `area::weight` meets its contract. Assumes nothing.
+-- `area::weight` meets its contract.
 use mathlib.Core.Path.{sym}
 use Rattle.area.proofs.GapSteps.{weight-left, weight-right}
 use Rattle.area.proofs.weight.Statement.{statement}

@@ -1,13 +1,13 @@
--- `area::write` meets its contract: the areas of the rows passed are written. Assumes nothing.
+-- `area::write` meets its contract: the areas of the rows passed are written.
 use Prim.Native.Nat.{_≤_, _-_}
 use native.Mathlib.Omega.{arith}
 use lib.ListN.{length}
-use Rattle.area.proofs.AreaSteps.{Written, write-start, write-length, write-room, write-next, write-all}
+use Rattle.area.proofs.AreaSteps.{WrittenBelow, write-start, write-length, write-room, write-next, write-all}
 use Rattle.area.proofs.write.Statement.{statement}
 use Rattle.area.proofs.write.Tie as tie
 
 abbrev Inv-loop : tie.InvT-loop
-Inv-loop g h out₀ count₀ a₀ out count a = (a ≤ length g) × Written g h out₀ a count out
+Inv-loop g h out₀ count₀ a₀ out count a = (a ≤ length g) × WrittenBelow g h out₀ a count out
 
 abbrev μ-loop : tie.MeasureT-loop
 μ-loop g h out₀ count₀ a₀ out count a = length g - a

@@ -1,10 +1,10 @@
--- `area::write_row` meets its contract. Assumes nothing.
+-- `area::write_row` meets its contract.
 use mathlib.Core.Path.{sym, _∙_}
 use native.Mathlib.Omega.{arith}
 use borrow.Author.Needs.{needs}
 use borrow.Author.Tests.{not-true, not-false}
 use Rattle.seed.proofs.Below.{small-last}
-use Rattle.area.proofs.AreaSteps.{begins-in, row-skipped, row-length, row-written}
+use Rattle.area.proofs.AreaSteps.{begins-in, row-skipped, row-written}
 use Rattle.area.proofs.write_row.Statement.{statement}
 use Rattle.area.proofs.write_row.Tie as tie
 
@@ -41,23 +41,31 @@ shared-slice-read-last-like-2 c = search needs
 last-like-requires-2 : tie.Need-last-like-requires-2
 last-like-requires-2 c κs = search needs
 
-mul-put : tie.Need-mul-put
-mul-put c = search needs
+cast-t17 : tie.Need-cast-t17
+cast-t17 c = search needs
 
-cast-put : tie.Need-cast-put
-cast-put c = search needs
+cast-t18 : tie.Need-cast-t18
+cast-t18 c = let u = small-last _ _ _ (c .before .before .last-like .ensures) (omega arith) in omega arith
 
-cast-put-2 : tie.Need-cast-put-2
-cast-put-2 c = let u = small-last _ _ _ (c .before .before .before .last-like .ensures) (omega arith) in omega arith
+cast-t19 : tie.Need-cast-t19
+cast-t19 c = let begun = c .before .before .before .before in
+    let u = begins-in _ _ _ _ (sym (begun .before .begins .ensures) ∙ not-false _ (begun .if1 .left)) in
+    omega arith
 
-cast-put-3 : tie.Need-cast-put-3
-cast-put-3 c = let u = begins-in _ _ _ _ (sym (c .before .before .before .before .before .before .begins .ensures) ∙ not-false _ (c .before .before .before .before .before .if1 .left)) in omega arith
+cast-t20 : tie.Need-cast-t20
+cast-t20 c = let begun = c .before .before .before .before in
+    let u = begins-in _ _ _ _ (sym (begun .before .begins .ensures) ∙ not-false _ (begun .if1 .left)) in
+    let v = small-last _ _ _ (c .last-like2 .ensures) (omega arith) in
+    omega arith
 
-cast-put-4 : tie.Need-cast-put-4
-cast-put-4 c = let u = begins-in _ _ _ _ (sym (c .before .before .before .before .before .before .begins .ensures) ∙ not-false _ (c .before .before .before .before .before .if1 .left)) in let v = small-last _ _ _ (c .before .last-like2 .ensures) (omega arith) in omega arith
+mul-put-word : tie.Need-mul-put-word
+mul-put-word c = search needs
 
-put-requires : tie.Need-put-requires
-put-requires c κs = let u = row-length _ _ _ _ (c .before .before .before .before .before .before .before .first-like .ensures) (sym (c .before .before .before .before .before .before .begins .ensures) ∙ not-false _ (c .before .before .before .before .before .if1 .left)) in omega arith
+slice-aggregate-put-word : tie.Need-slice-aggregate-put-word
+slice-aggregate-put-word c = search needs
+
+put-word-requires : tie.Need-put-word-requires
+put-word-requires c κs = search needs
 
 add-result : tie.Need-add-result
 add-result c = search needs
@@ -66,7 +74,10 @@ same-length : tie.Need-same-length
 same-length c = search needs
 
 returns-2 : tie.Need-returns-2
-returns-2 c = row-written _ _ _ _ (c .before .before .before .before .before .before .before .before .before .before .first-like .ensures) (sym (c .before .before .before .before .before .before .before .before .before .begins .ensures) ∙ not-false _ (c .before .before .before .before .before .before .before .before .if1 .left)) _ _ _ _ _ (c .before .before .before .before .before .before .last-like .ensures) (c .before .before .before .before .last-like2 .ensures) (c .before .before .put .ensures)
+returns-2 c = let last = c .before .before .before .before .before in
+    let begun = last .before .before .before .before in
+    let room = begun .before .before .before .before .before .before .before .pre .4 in
+    row-written _ _ _ _ (begun .before .before .first-like .ensures) (sym (begun .before .begins .ensures) ∙ not-false _ (begun .if1 .left)) _ _ _ _ _ (last .before .before .last-like .ensures) (last .last-like2 .ensures) room (c .before .before .put-word .ensures)
 
 pub write-row-spec : {M : Type 1} → statement M
 write-row-spec =
@@ -83,12 +94,13 @@ write-row-spec =
     mul-last-like-2
     shared-slice-read-last-like-2
     last-like-requires-2
-    mul-put
-    cast-put
-    cast-put-2
-    cast-put-3
-    cast-put-4
-    put-requires
+    cast-t17
+    cast-t18
+    cast-t19
+    cast-t20
+    mul-put-word
+    slice-aggregate-put-word
+    put-word-requires
     add-result
     same-length
     returns-2)

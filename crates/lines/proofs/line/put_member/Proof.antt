@@ -1,8 +1,8 @@
--- `line::put_member` meets its contract: each arm knows whether the chain has the number. Assumes nothing.
+-- `line::put_member` meets its contract: each arm knows whether the chain has the number.
 use mathlib.Core.Path.{ap}
 use native.Mathlib.Omega.{arith}
+use Rattle.write.proofs.Puts.{puts-none}
 use Rattle.lines.specs.Lines.{member}
-use Rattle.lines.proofs.Outputs.{puts-none}
 use borrow.Author.Needs.{needs}
 use Rattle.lines.proofs.line.put_member.Statement.{statement}
 use Rattle.lines.proofs.line.put_member.Tie as tie
@@ -23,7 +23,7 @@ returns c = rw (c .before .before .before .before .before .if1 .taken) (c .befor
 
 returns-2 : tie.Need-returns-2
 unfolding member
-returns-2 c = puts-none (ap (member (c .before .before .args .number)) (c .if1 .left))
+returns-2 c = puts-none (c .before .before .pre) (ap (member (c .before .before .args .number)) (c .if1 .left))
 
 pub put-member-spec : {M : Type 1} → statement M
 put-member-spec =

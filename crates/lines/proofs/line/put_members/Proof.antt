@@ -1,16 +1,16 @@
--- `line::put_members` meets its contract: the numbers from i + 1 on are still to be put. Assumes nothing.
+-- `line::put_members` meets its contract: the numbers from i + 1 on are still to be put.
 use mathlib.Core.Path.{refl}
 use Prim.Native.Nat.{_-_, _≤_}
 use native.Mathlib.Omega.{arith}
 use borrow.Author.Needs.{needs}
 use Rattle.lines.specs.Lines.{members}
 use Rattle.lines.proofs.Members.{membersFrom, members-more, members-none}
-use Rattle.lines.proofs.Outputs.{Left, left-length, left-room, left-less, left-none, room-first}
+use Rattle.write.proofs.Puts.{Left, left-length, left-room, left-less, left-none, room-first}
 use Rattle.lines.proofs.line.put_members.Statement.{statement}
 use Rattle.lines.proofs.line.put_members.Tie as tie
 
 abbrev Inv-loop : tie.InvT-loop
-Inv-loop out₀ at chain next₀ i₀ out next i = (i ≤ 64) × Left out₀ at (members 1 chain) out next (membersFrom chain i)
+Inv-loop out₀ at chain next₀ i₀ out next i = (i ≤ 64) × Left (members 1 chain) at out₀ (membersFrom chain i) next out
 
 abbrev μ-loop : tie.MeasureT-loop
 μ-loop out₀ at chain next₀ i₀ out next i = 64 - i
@@ -25,7 +25,7 @@ array-read-put-member : tie.Need-array-read-put-member Inv-loop μ-loop
 array-read-put-member c = omega arith
 
 put-member-requires : tie.Need-put-member-requires Inv-loop μ-loop
-put-member-requires c κs = room-first _ (members-more _ _ (search needs)) (left-room (c .before .before .loop .inv .1) (c .before .before .before .before .pre))
+put-member-requires c κs = room-first (left-room (c .before .before .loop .inv .1) (c .before .before .before .before .pre)) _ (members-more _ _ (search needs))
 
 add-i : tie.Need-add-i Inv-loop μ-loop
 add-i c = omega arith
@@ -34,13 +34,13 @@ loop-less : tie.Need-loop-less Inv-loop μ-loop
 loop-less c = omega arith
 
 loop-again : tie.Need-loop-again Inv-loop μ-loop
-loop-again c = (omega arith, left-less (c .before .before .before .before .before .loop .inv .1) (members-more _ _ (search needs)) (c .before .before .put-member .ensures))
+loop-again c = (omega arith, left-less (c .before .before .before .before .before .loop .inv .1) (c .before .before .before .before .before .before .before .pre) (members-more _ _ (search needs)) (c .before .before .put-member .ensures))
 
 same-length : tie.Need-same-length Inv-loop μ-loop
 same-length c = left-length (c .before .loop .inv .1)
 
 returns : tie.Need-returns Inv-loop μ-loop
-returns c = left-none (c .before .loop .inv .1) (members-none _ _ (search needs))
+returns c = left-none (c .before .loop .inv .1) (c .before .before .before .pre) (members-none _ _ (search needs))
 
 pub put-members-spec : {M : Type 1} → statement M
 put-members-spec =

@@ -1,8 +1,8 @@
--- `line::put_place` meets its contract: each arm knows which place it has. Assumes nothing.
+-- `line::put_place` meets its contract: each arm knows which place it has.
 use mathlib.Core.Path.{ap}
 use native.Mathlib.Omega.{arith}
+use Rattle.write.proofs.Puts.{puts-none}
 use Rattle.lines.specs.Lines.{placed}
-use Rattle.lines.proofs.Outputs.{puts-none}
 use borrow.Author.Needs.{needs}
 use Rattle.lines.proofs.line.put_place.Statement.{statement}
 use Rattle.lines.proofs.line.put_place.Tie as tie
@@ -63,7 +63,7 @@ returns-3 c = rw (c .before .before .before .before .before .before .place3 .giv
 
 returns-4 : tie.Need-returns-4
 unfolding placed
-returns-4 c = puts-none (ap placed (c .enum-told .given .1))
+returns-4 c = puts-none (c .before .before .before .pre) (ap placed (c .enum-told .given .1))
 
 pub put-place-spec : {M : Type 1} → statement M
 put-place-spec =

@@ -1,9 +1,10 @@
--- `line::put_score_line` meets its contract: the score is put and then the line feed. Assumes nothing.
+-- `line::put_score_line` meets its contract: the score is put and then the line feed.
 use mathlib.Core.Path.{refl}
+use mathlib.Core.List.{_++_}
 use native.Mathlib.Omega.{arith}
-use lib.ListN.{length-append}
-use Rattle.lines.specs.Lines.{bytes, decimal, scoreLine}
-use Rattle.lines.proofs.Outputs.{puts-length, puts-both}
+use Rattle.write.specs.Decimal.{bytes, decimal}
+use Rattle.write.proofs.Puts.{room-first, puts-both}
+use Rattle.lines.specs.Lines.{scoreLine}
 use borrow.Author.Needs.{needs}
 use Rattle.lines.proofs.line.put_score_line.Statement.{statement}
 use Rattle.lines.proofs.line.put_score_line.Tie as tie
@@ -13,20 +14,22 @@ slice-aggregate-put-numbered c = search needs
 
 put-numbered-requires : tie.Need-put-numbered-requires
 unfolding scoreLine
-put-numbered-requires c κs = let room = c .before .before .before .pre in record { fits = omega (arith, room, length-append (decimal (c .before .before .before .args .total)) (bytes "\n")) }
+put-numbered-requires c κs = let start = c .before .before .before in
+    let room = room-first (start .pre) {a = bytes "score " ++ decimal (start .args .total)} (bytes "\n") refl in
+    record { fits = omega (arith, room) }
 
-put-byte-requires : tie.Need-put-byte-requires
-unfolding scoreLine
-put-byte-requires c κs = let room = c .before .before .before .before .before .before .before .pre in
-    let put = c .before .before .before .put-numbered .ensures in
-    record { fits = omega (arith, room, put .place, puts-length put, length-append (decimal (c .before .before .before .before .before .before .before .args .total)) (bytes "\n")) }
+slice-aggregate-put-word : tie.Need-slice-aggregate-put-word
+slice-aggregate-put-word c = search needs
+
+put-word-requires : tie.Need-put-word-requires
+put-word-requires c κs = search needs
 
 same-length : tie.Need-same-length
 same-length c = search needs
 
 returns : tie.Need-returns
 unfolding scoreLine
-returns c = puts-both (c .before .before .before .before .before .before .put-numbered .ensures) refl (c .before .before .put-byte .ensures)
+returns c = let put = c .before .before .before .before .before .before .before in puts-both (put .before .before .before .before .pre) (put .put-numbered .ensures) refl (c .before .before .put-word .ensures)
 
 pub put-score-line-spec : {M : Type 1} → statement M
 put-score-line-spec =
@@ -34,6 +37,7 @@ put-score-line-spec =
     (tie.spec
     slice-aggregate-put-numbered
     put-numbered-requires
-    put-byte-requires
+    slice-aggregate-put-word
+    put-word-requires
     same-length
     returns)
