@@ -4,6 +4,7 @@
 use answer::Answer;
 use answer::Ground;
 use answer::Place;
+use answer::refused;
 use seed::pair_count;
 use seed::side;
 use table::Table;
@@ -189,10 +190,7 @@ fn list(g: &[usize], h: &[usize], out: &mut [u8]) -> Listed
     let count = count(g, h);
     if out.len() < count * 4 {
         return Listed {
-            answer: Answer::Refused {
-                ground: Ground::OutputShort,
-                place: Place::Nothing,
-            },
+            answer: refused(Ground::OutputShort, Place::Nothing),
             count: 0,
         };
     }

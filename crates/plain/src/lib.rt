@@ -6,6 +6,7 @@ mod size;
 use answer::Answer;
 use answer::Ground;
 use answer::Place;
+use answer::refused;
 use parts::put_pairs;
 use parts::put_seeds;
 use records::put_counts;
@@ -26,10 +27,7 @@ pub fn write(table: Table, out: &mut [u8]) -> Written
     let length = start + 4 * size.pairs;
     if out.len() < length {
         return Written {
-            answer: Answer::Refused {
-                ground: Ground::OutputShort,
-                place: Place::Nothing,
-            },
+            answer: refused(Ground::OutputShort, Place::Nothing),
             length: 0,
         };
     }

@@ -11,8 +11,11 @@ count-requires c κs = search needs
 mul-if1 : tie.Need-mul-if1
 mul-if1 c = let u = count-small _ _ _ _ (c .count .ensures) in omega arith
 
+refused-requires : tie.Need-refused-requires
+refused-requires c κs = search needs
+
 returns : tie.Need-returns
-returns c = list-refused _ _ _ (c .before .count .ensures) (c .if1 .taken)
+returns c = rw (c .refused .ensures) (list-refused _ _ _ (c .before .before .count .ensures) (c .before .if1 .taken))
 
 write-requires : tie.Need-write-requires
 write-requires c κs = search needs
@@ -25,4 +28,4 @@ returns-2 c = list-accepted _ _ _ (c .before .before .before .before .before .co
 
 pub list-spec : {M : Type 1} → statement M
 list-spec =
-    tie.close (tie.spec count-requires mul-if1 returns write-requires same-length returns-2)
+    tie.close (tie.spec count-requires mul-if1 refused-requires returns write-requires same-length returns-2)

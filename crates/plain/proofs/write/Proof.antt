@@ -30,8 +30,11 @@ mul-length c = omega (arith, few (c .before .before))
 add-length : tie.Need-add-length
 add-length c = omega (arith, few (c .before .before))
 
+refused-requires : tie.Need-refused-requires
+refused-requires c κs = search needs
+
 returns : tie.Need-returns
-returns c = writes-none _ _ (c .before .before .before .size-of .ensures) _ (c .if1 .taken)
+returns c = rw (c .refused .ensures) (writes-none _ _ (c .before .before .before .before .size-of .ensures) _ (c .before .if1 .taken))
 
 put-counts-requires : tie.Need-put-counts-requires
 put-counts-requires c κs = let n = few (c .before .before .before .before) in (n .0, n .1, omega (arith, c .before .if1 .left))
@@ -63,6 +66,7 @@ write-spec =
     add-start
     mul-length
     add-length
+    refused-requires
     returns
     put-counts-requires
     put-seeds-requires
