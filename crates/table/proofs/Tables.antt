@@ -40,17 +40,37 @@ rows-set t r k e l h = ap (λ (n : ℕ). tab n (rowAt r)) e ∙ tab-set (t .seed
 pub rows-same : (t : Table) (k : ℕ) (row : Row) → Laid t → t .seeds ≤ k → HasRows (set (rowsOf t) k row) t
 rows-same t k row h l = record { is = sym (set-out (rowsOf t) k row (omega (arith, rows-length t))); laid = h }
 
--- Another score.
-abbrev pub with-score : Table → ℕ → ℤ → Table
-with-score t k z = record {
+-- Other scores and presences, of as many places.
+abbrev with-places : Table → List ℤ → List Bool → Table
+with-places t scores present = record {
   seeds = t .seeds;
   pairs = t .pairs;
   qs = t .qs;
   ts = t .ts;
   bounds = t .bounds;
-  scores = set (t .scores) k z;
-  present = t .present;
+  scores = scores;
+  present = present;
 }
+
+laid-places : (t : Table) (scores : List ℤ) (present : List Bool) → Laid t → length scores ≡ length (t .scores) → length present ≡ length (t .present) → Laid (with-places t scores present)
+laid-places t scores present h e f =
+    record {
+      few = h .few;
+      fit = h .fit;
+      first = h .first;
+      last = h .last;
+      rising = h .rising;
+      within = h .within;
+      room-q = h .room-q;
+      room-t = h .room-t;
+      room-bounds = h .room-bounds;
+      room-scores = e ∙ h .room-scores;
+      room-present = f ∙ h .room-present;
+    }
+
+-- Another score.
+abbrev pub with-score : Table → ℕ → ℤ → Table
+with-score t k z = with-places t (set (t .scores) k z) (t .present)
 
 pub rows-score : (t : Table) (k : ℕ) (z : ℤ) → Laid t → k < t .seeds → HasRows (set (rowsOf t) k (withScore (getD (rowsOf t) k noRow) z)) (with-score t k z)
 unfolding rowAt pairsAt
@@ -59,32 +79,12 @@ rows-score t k z h l =
       is =
           rows-set t (with-score t k z) k refl l (λ i b ne. rw (getD-set-other (t .scores) k i z (pos 0) ne))
           ∙ ap (set (rowsOf t) k) (rw (row-there t k l, getD-set-same (t .scores) k z (pos 0) (omega (arith, h .room-scores, h .few))));
-      laid = record {
-        few = h .few;
-        fit = h .fit;
-        first = h .first;
-        last = h .last;
-        rising = h .rising;
-        within = h .within;
-        room-q = h .room-q;
-        room-t = h .room-t;
-        room-bounds = h .room-bounds;
-        room-scores = length-set (t .scores) k z ∙ h .room-scores;
-        room-present = h .room-present;
-      };
+      laid = laid-places t _ _ h (length-set (t .scores) k z) refl;
     }
 
 -- Another presence.
 abbrev pub with-presence : Table → ℕ → Bool → Table
-with-presence t k b = record {
-  seeds = t .seeds;
-  pairs = t .pairs;
-  qs = t .qs;
-  ts = t .ts;
-  bounds = t .bounds;
-  scores = t .scores;
-  present = set (t .present) k b;
-}
+with-presence t k b = with-places t (t .scores) (set (t .present) k b)
 
 pub rows-presence : (t : Table) (k : ℕ) (b : Bool) → Laid t → k < t .seeds → HasRows (set (rowsOf t) k (withPresence (getD (rowsOf t) k noRow) b)) (with-presence t k b)
 unfolding rowAt pairsAt
@@ -93,19 +93,7 @@ rows-presence t k b h l =
       is =
           rows-set t (with-presence t k b) k refl l (λ i m ne. rw (getD-set-other (t .present) k i b false ne))
           ∙ ap (set (rowsOf t) k) (rw (row-there t k l, getD-set-same (t .present) k b false (omega (arith, h .room-present, h .few))));
-      laid = record {
-        few = h .few;
-        fit = h .fit;
-        first = h .first;
-        last = h .last;
-        rising = h .rising;
-        within = h .within;
-        room-q = h .room-q;
-        room-t = h .room-t;
-        room-bounds = h .room-bounds;
-        room-scores = h .room-scores;
-        room-present = length-set (t .present) k b ∙ h .room-present;
-      };
+      laid = laid-places t _ _ h refl (length-set (t .present) k b);
     }
 
 -- How many pairs a seed has.
