@@ -1,15 +1,17 @@
 -- Lines put to 256 zeros stand there with zeros behind them.
-use mathlib.Core.Path.{_≡_, ap, ap₂, _∙_}
+use mathlib.Core.Path.{_≡_, refl, ap, ap₂, _∙_}
 use mathlib.Core.List.{List, _++_}
 use Prim.Native.Nat.{ℕ, zero, suc, _-_, _≤_}
 use native.Mathlib.Nat.{zero-add}
 use native.Mathlib.Numerals.{unary-clauses}
 use native.Mathlib.Omega.{arith}
-use lib.ListN.{length, drop, replicate}
+use lib.ListN.{length, take, drop, replicate, length-append, length-replicate}
+use lib.Seq.{take-at}
 use Rattle.write.specs.Puts.{Puts, Room}
 use Rattle.write.proofs.Puts.{puts-output, puts-place}
 use Rattle.write.proofs.Sets.{sets-first}
 use Rattle.lines.specs.Lines.{printed}
+use Rattle.lines.specs.declared.Lines.{Lines}
 
 drop-zeros : (n k : ℕ) → k ≤ n → drop {A = ℕ} k (replicate n 0) ≡ replicate (n - k) 0
 drop-zeros n zero h = simp unary-clauses
@@ -27,3 +29,18 @@ puts-printed {line} fits put =
     ap₂ (λ (b : List ℕ) (m : ℕ). record { bytes = b; length = m })
     (puts-output room put ∙ sets-first (replicate 256 0) line fits ∙ ap (λ (l : List ℕ). line ++ l) (drop-zeros 256 (length line) fits))
     (puts-place room put ∙ zero-add (length line))
+
+-- Lines of at most 256 bytes, read back from their array.
+module _ (line : List ℕ) {lines : Lines} (is : lines ≡ printed line) where
+  pub printed-fits : length line ≤ 256 → (length (lines .bytes) ≡ 256) × (lines .length ≤ 256)
+  unfolding printed
+  printed-fits few = (
+    ap (λ (x : Lines). length (x .bytes)) is
+        ∙ length-append line (replicate (256 - length line) 0)
+        ∙ omega (arith, length-replicate {A = ℕ} (256 - length line) 0),
+    omega (arith, ap (λ (x : Lines). x .length) is),
+  )
+
+  pub printed-bytes : take (lines .length) (lines .bytes) ≡ line
+  unfolding printed
+  printed-bytes = ap (λ (x : Lines). take (x .length) (x .bytes)) is ∙ take-at line (replicate (256 - length line) 0) (length line) refl

@@ -1,4 +1,4 @@
--- Parts of inputs and judged memory, computed from the definitions. Assumes nothing.
+-- Parts of inputs and judged memory, computed from the definitions.
 use mathlib.Core.Path.{_≡_, refl}
 use mathlib.Core.List.{List, [], _∷_}
 use Prim.Native.Nat.{ℕ}
@@ -7,8 +7,9 @@ use Rattle.answer.specs.declared.Ground.the-variants.{ScratchShort, OutputShort
 use Rattle.answer.specs.declared.Place.the-variants.{Nothing}
 use Rattle.answer.specs.declared.Answer.the-variants.{Accepted, Refused}
 use Rattle.write.specs.Decimal.{bytes}
+use Rattle.write.specs.Wrote.{writtenOf}
 use Rattle.report.specs.Input.{readBytes, ahead, behind, textQ, textT, deckBytes}
-use Rattle.report.specs.Report.{shortage}
+use Rattle.report.specs.Report.{reportedOf}
 
 -- Q, T and the deck of an input.
 abbrev partsOf : String → List (List ℕ)
@@ -21,7 +22,10 @@ pub inputs-parted :
 unfolding readBytes ahead behind
 inputs-parted = refl
 
--- Lent memory for lines of 18 bytes: a number of scratch too few, a byte of output too few, and just enough.
-pub rooms-judged : shortage 4095 17 18 ∷ shortage 4096 17 18 ∷ shortage 4096 18 18 ∷ [] ≡ Refused ScratchShort Nothing ∷ Refused OutputShort Nothing ∷ Accepted ∷ []
-unfolding shortage
+-- Lent memory for lines of 14 bytes: a number of scratch too few, a byte of output too few, and just enough.
+abbrev line : List ℕ
+line = bytes "refused 1 Q 0\n"
+
+pub rooms-judged : reportedOf 4095 line 13 ∷ reportedOf 4096 line 13 ∷ reportedOf 4096 line 14 ∷ [] ≡ record { answer = Refused ScratchShort Nothing; length = 0 } ∷ record { answer = Refused OutputShort Nothing; length = 0 } ∷ record { answer = Accepted; length = 14 } ∷ []
+unfolding reportedOf writtenOf
 rooms-judged = refl

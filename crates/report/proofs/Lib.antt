@@ -1,3 +1,4 @@
 pub mod Parts
 pub mod Reports
+pub mod Copies
 pub mod Examples

@@ -1,4 +1,4 @@
--- Where the parts of the input lie: a part ends where its line feed stands, and the next starts behind that. Assumes nothing.
+-- Where the parts of the input lie: a part ends where its line feed stands, and the next starts behind that.
 use mathlib.Core.Path.{_≡_, refl, sym, ap, _∙_, subst}
 use mathlib.Core.Bool.{Bool, true, false, cond}
 use mathlib.Core.List.{List, [], _∷_}

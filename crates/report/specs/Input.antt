@@ -1,4 +1,4 @@
--- The parts of standard input (document 01, "Printed lines"): Q, line feed, T, line feed, the deck. Assumes nothing.
+-- The parts of standard input (document 01, "Printed lines"): Q, line feed, T, line feed, the deck.
 use mathlib.Core.Path.{_≡_}
 use mathlib.Core.Bool.{cond}
 use mathlib.Core.List.{List, [], _∷_}

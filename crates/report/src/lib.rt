@@ -1,30 +1,31 @@
 // Standard input's bytes to the printed lines.
 mod input;
+mod memory;
 
 use answer::Answer;
 use answer::Ground;
 use answer::Place;
+use answer::refused;
 use chain::Changed;
+use chain::Session;
 use chain::open_deck;
 use input::bytes_of;
 use input::split;
 use lines::Lines;
 use lines::refusal;
 use lines::result;
+use memory::first_of;
+use memory::settle;
+use write::Written;
+use write::put_word;
 ghost use mathlib.Core.Path.{_≡_};
-ghost use mathlib.Core.List.{_++_};
 ghost use Prim.Native.Nat.{_≤_};
-ghost use lib.ListN.{length, take, drop};
+ghost use lib.ListN.{length, take};
+ghost use Rattle.write.specs.Wrote.{Wrote};
 ghost use Rattle.best.specs.Best.{scratchNeeded};
 ghost use Rattle.chain.specs.Opening.{Opens};
-ghost use Rattle.lines.specs.Lines.{printed};
-ghost use Rattle.report.specs.Report.{outcomeOf, linesOf, scratchLeft, shortage, reportOf, Reports};
-
-// What a report answers of the memory that it is lent, and how many bytes it wrote.
-pub struct Reported {
-    pub answer: Answer,
-    pub length: usize,
-}
+ghost use Rattle.chain.specs.View.{view, Sound};
+ghost use Rattle.report.specs.Report.{outcomeOf, reportOf, Reports, ChainPut};
 
 // The session on an input's Q, T and deck.
 fn opened_on(input: &[u8]) -> Changed
@@ -37,81 +38,72 @@ fn opened_on(input: &[u8]) -> Changed
     open_deck(q, t, deck)
 }
 
-// The lines of an input: those of its best chain, or of its refusal.
-fn lines_of(input: &[u8], scratch: &mut [u64]) -> Lines
-    requires { ⌜ scratchNeeded ≤ length (now scratch) ⌝ }
-    ensures { λ r. ⌜ (r ≡ printed (linesOf (now (input .entry)))) × (now (scratch .exit) ≡ scratchLeft (now (input .entry)) (now (scratch .entry))) ⌝ }
+// Writes lines to the start of the output, if it has room for them.
+fn put_lines(out: &mut [u8], lines: Lines) -> Written
+    requires { ⌜ (length (lines .bytes) ≡ 256) × (lines .length ≤ 256) ⌝ }
+    ensures { λ r. ⌜ Wrote (take (lines .length) (lines .bytes)) (now (out .entry)) (now (out .exit)) r ⌝ }
 {
+    let bytes = lines.bytes;
+    let length = lines.length;
+    if out.len() < length {
+        return Written {
+            answer: refused(Ground::OutputShort, Place::Nothing),
+            length: 0,
+        };
+    }
+    put_word(out, 0, &bytes[..length]);
+    Written {
+        answer: Answer::Accepted,
+        length,
+    }
+}
+
+// Writes the lines of a session's best chain, worked out on the first 4,096 numbers of the scratch: they are kept, and put back if the output
+// has not room.
+fn put_chain_kept(session: Session, scratch: &mut [u64], out: &mut [u8]) -> Written
+    requires { ⌜ Sound session × (scratchNeeded ≤ length (now scratch)) ⌝ }
+    ensures { λ r. ⌜ ChainPut (view session) (now (scratch .entry)) (now (scratch .exit)) (now (out .entry)) (now (out .exit)) r ⌝ }
+{
+    let kept = first_of(scratch);
+    let best = session.best_chain(&mut scratch[..4096]);
+    let chain = best.chain;
+    let written = put_lines(out, result(best.total, chain));
+    let answer = written.answer;
+    settle(scratch, &kept, answer);
+    written
+}
+
+// Writes the lines of a session's best chain. An output of 256 bytes has room for all lines, so that nothing need be kept.
+fn put_chain(session: Session, scratch: &mut [u64], out: &mut [u8]) -> Written
+    requires { ⌜ Sound session × (scratchNeeded ≤ length (now scratch)) ⌝ }
+    ensures { λ r. ⌜ ChainPut (view session) (now (scratch .entry)) (now (scratch .exit)) (now (out .entry)) (now (out .exit)) r ⌝ }
+{
+    if out.len() < 256 {
+        return put_chain_kept(session, scratch, out);
+    }
+    let best = session.best_chain(scratch);
+    let chain = best.chain;
+    put_lines(out, result(best.total, chain))
+}
+
+// Writes the printed lines of an input to the start of the output: those of its best chain, or of its refusal.
+pub fn report(input: &[u8], scratch: &mut [u64], out: &mut [u8]) -> Written
+    ensures { λ r. ⌜ Reports (now (input .entry)) (now (scratch .entry)) (now (scratch .exit)) (now (out .entry)) (now (out .exit)) r ⌝ }
+{
+    if scratch.len() < 4096 {
+        return Written {
+            answer: refused(Ground::ScratchShort, Place::Nothing),
+            length: 0,
+        };
+    }
     let opened = opened_on(input);
     let answer = opened.answer;
     match answer {
         Answer::Accepted => {
             let session = opened.session;
-            let best = session.best_chain(scratch);
-            let chain = best.chain;
-            result(best.total, chain)
+            put_chain(session, scratch, out)
         }
-        _ => refusal(answer),
-    }
-}
-
-// How many bytes the lines of an input have, found on a scratch of its own, so that nothing lent is touched.
-fn length_needed(input: &[u8]) -> usize
-    ensures { λ r. ⌜ r ≡ length (linesOf (now (input .entry))) ⌝ }
-{
-    let mut scratch = [0u64; 4096];
-    lines_of(input, &mut scratch[..]).length
-}
-
-// Puts lines to the start of an output that has room for them.
-fn put_lines(out: &mut [u8], lines: Lines)
-    requires { ⌜ (length (lines .bytes) ≡ 256) × (lines .length ≤ 256) × (lines .length ≤ length (now out)) ⌝ }
-    ensures { λ r. ⌜ now (out .exit) ≡ take (lines .length) (lines .bytes) ++ drop (lines .length) (now (out .entry)) ⌝ }
-{
-    let mut i = 0;
-    while i < lines.length {
-        out[i] = lines.bytes[i];
-        i += 1;
-    }
-}
-
-// Grounds 21 and 22. Every report fits 256 bytes, so that only a shorter output is held against the lines.
-fn judge_room(input: &[u8], scratch: usize, out: usize) -> Answer
-    ensures { λ r. ⌜ r ≡ shortage scratch out (length (linesOf (now (input .entry)))) ⌝ }
-{
-    if scratch < 4096 {
-        return Answer::Refused {
-            ground: Ground::ScratchShort,
-            place: Place::Nothing,
-        };
-    }
-    if 256 <= out {
-        return Answer::Accepted;
-    }
-    if out < length_needed(input) {
-        return Answer::Refused {
-            ground: Ground::OutputShort,
-            place: Place::Nothing,
-        };
-    }
-    Answer::Accepted
-}
-
-// Writes the printed lines of an input to the start of the output.
-pub fn report(input: &[u8], scratch: &mut [u64], out: &mut [u8]) -> Reported
-    ensures { λ r. ⌜ Reports (now (input .entry)) (now (scratch .entry)) (now (scratch .exit)) (now (out .entry)) (now (out .exit)) r ⌝ }
-{
-    let answer = judge_room(input, scratch.len(), out.len());
-    match answer {
-        Answer::Accepted => {
-            let lines = lines_of(input, scratch);
-            put_lines(out, lines);
-            Reported {
-                answer,
-                length: lines.length,
-            }
-        }
-        _ => Reported { answer, length: 0 },
+        _ => put_lines(out, refusal(answer)),
     }
 }
 

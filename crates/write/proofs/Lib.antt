@@ -1,5 +1,5 @@
 pub mod Sets
-pub mod Wrote
 pub mod Puts
+pub mod Wrote
 pub mod Decimals
 pub mod Examples

@@ -1,4 +1,4 @@
--- `report::opened_on` meets its contract: the three parts lie in the input and hold Q, T and the deck. Assumes nothing.
+-- `report::opened_on` meets its contract: the three parts lie in the input and hold Q, T and the deck.
 use borrow.Author.Needs.{needs}
 use Rattle.report.proofs.Reports.{opens-input}
 use Rattle.report.proofs.opened_on.Statement.{statement}

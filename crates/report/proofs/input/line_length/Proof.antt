@@ -1,4 +1,4 @@
--- `report::input::line_length` meets its contract: the bytes passed and those still before the line feed are counted together. Assumes nothing.
+-- `report::input::line_length` meets its contract: the bytes passed and those still before the line feed are counted together.
 use Prim.Native.Nat.{_-_, _≤_}
 use native.Mathlib.Omega.{arith}
 use lib.ListN.{length}

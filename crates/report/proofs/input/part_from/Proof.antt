@@ -1,4 +1,4 @@
--- `report::input::part_from` meets its contract: a line ends within what it is looked for in. Assumes nothing.
+-- `report::input::part_from` meets its contract: a line ends within what it is looked for in.
 use mathlib.Core.Path.{ap}
 use Prim.Native.Nat.{ℕ, _+_}
 use native.Mathlib.Omega.{arith}

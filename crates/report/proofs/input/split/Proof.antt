@@ -1,4 +1,4 @@
--- `report::input::split` meets its contract: each part is found behind the one before. Assumes nothing.
+-- `report::input::split` meets its contract: each part is found behind the one before.
 use native.Mathlib.Omega.{arith}
 use borrow.Author.Needs.{needs}
 use Rattle.report.proofs.Parts.{part-end, parted}
