@@ -2,7 +2,7 @@
 ghost use mathlib.Core.Path.{_≡_};
 ghost use mathlib.Core.Logic.{_≢_};
 ghost use Prim.Native.Nat.{_+_, _-_, _^_, _≤_, _<_};
-ghost use lib.ListN.{length, set, replicate};
+ghost use lib.ListN.{length, set};
 ghost use Rattle.optimum.specs.Key.{empty, better, _⊕_, inMask};
 ghost use Rattle.optimum.specs.Table.{stored};
 ghost use Rattle.seed.specs.Tab.{tab};
@@ -105,17 +105,6 @@ pub fn put(scratch: &mut [u64], base: usize, k: usize, key: Stored)
 {
     scratch[base + k] = key.total;
     scratch[base + 64 + k] = key.mask;
-}
-
-// Zero in all of the scratch.
-pub fn clear(scratch: &mut [u64])
-    ensures { λ r. ⌜ now (scratch .exit) ≡ replicate (length (now (scratch .entry))) 0 ⌝ }
-{
-    let mut i = 0;
-    while i < scratch.len() {
-        scratch[i] = 0;
-        i += 1;
-    }
 }
 
 // Whether a mask has each of 64 numbers.

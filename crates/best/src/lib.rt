@@ -6,13 +6,13 @@ use answer::Answer;
 use answer::Ground;
 use answer::Place;
 use answer::refused;
-use keys::clear;
 use keys::unpacked;
 use scratch::solve;
 use standing::stood;
 use table::Table;
 use tree::Tree;
 ghost use mathlib.Core.Path.{_≡_};
+ghost use lib.ListN.{length, replicate};
 ghost use Rattle.table.specs.Table.{Kept};
 ghost use Rattle.best.specs.Best.{tooShort, Answered};
 
@@ -34,6 +34,17 @@ fn too_short() -> Best
         answer: refused(Ground::ScratchShort, Place::Nothing),
         total: 0,
         chain: [false; 64],
+    }
+}
+
+// Zero in all of the scratch.
+pub fn clear(scratch: &mut [u64])
+    ensures { λ r. ⌜ now (scratch .exit) ≡ replicate (length (now (scratch .entry))) 0 ⌝ }
+{
+    let mut i = 0;
+    while i < scratch.len() {
+        scratch[i] = 0;
+        i += 1;
     }
 }
 

@@ -1,5 +1,6 @@
-// Numbers of the lent scratch kept, put back and cleared.
+// Numbers of the lent scratch kept and put back.
 use answer::Answer;
+use best::clear;
 ghost use mathlib.Core.Path.{_≡_};
 ghost use mathlib.Core.List.{_++_};
 ghost use Prim.Native.Nat.{_-_, _≤_};
@@ -28,17 +29,6 @@ fn put_back(numbers: &mut [u64], kept: &[u64])
     let mut i = 0;
     while i < kept.len() {
         numbers[i] = kept[i];
-        i += 1;
-    }
-}
-
-// Zero in all of them.
-fn clear(numbers: &mut [u64])
-    ensures { λ r. ⌜ now (numbers .exit) ≡ replicate (length (now (numbers .entry))) 0 ⌝ }
-{
-    let mut i = 0;
-    while i < numbers.len() {
-        numbers[i] = 0;
         i += 1;
     }
 }

@@ -1,4 +1,4 @@
--- `best::keys::clear` meets its contract.
+-- `best::clear` meets its contract.
 use Prim.Native.Nat.{_≤_, _-_}
 use mathlib.Core.Path.{_≡_, refl}
 use mathlib.Core.List.{_++_}
@@ -6,8 +6,8 @@ use native.Mathlib.Omega.{arith}
 use lib.ListN.{length, drop, replicate, length-set}
 use borrow.Author.Fill.{fill-none}
 use Rattle.best.proofs.Filling.{zero-more, zero-done}
-use Rattle.best.proofs.keys.clear.Statement.{statement}
-use Rattle.best.proofs.keys.clear.Tie as tie
+use Rattle.best.proofs.clear.Statement.{statement}
+use Rattle.best.proofs.clear.Tie as tie
 
 abbrev Inv-loop : tie.InvT-loop
 Inv-loop scratch₀ i₀ scratch i = (i ≤ length scratch₀) × (length scratch ≡ length scratch₀) × (scratch ≡ replicate i 0 ++ drop i scratch₀)
