@@ -8,10 +8,9 @@ use native.Mathlib.Omega.{arith}
 use native.Mathlib.Decide.{ℕ-discrete}
 use native.Mathlib.Numerals.{add-one}
 use lib.ListN.{length, getD, length-append}
-use lib.Dec.{eqb, ltb}
+use lib.Dec.{eqb}
 use lib.Seq.{sets, length-sets}
 use borrow.Author.Tests.{eq-eqb, ne-eqb, lt-ltb, le-ltb, le-leb, lt-leb}
-use Rattle.answer.specs.Answer.{given}
 use Rattle.answer.specs.declared.Ground.the-variants.{OutputShort}
 use Rattle.answer.specs.declared.Place.the-variants.{Nothing}
 use Rattle.answer.specs.declared.Answer.the-variants.{Accepted, Refused}
@@ -197,12 +196,3 @@ module _ (xs : List Box) (o : List ℕ) (k : ℕ) (e : k ≡ length xs) where
   list-accepted after h f =
       let g : length (bytesOf xs) ≤ length o = omega (arith, bytes-length xs) in
       record { answer = rw (le-leb _ _ g, e); output = output-all (bytesOf xs) o g f }
-
--- Ground 22 by the number of the areas.
-pub listed-answer : (xs : List Box) (o : List ℕ) → listedOf xs o .answer ≡ given (ltb (length o) (length xs * 4)) OutputShort Nothing Accepted
-unfolding listedOf
-listed-answer xs o =
-    elim (lt-or-le (length o) (length xs * 4)) [
-      | inl u ↦ rw (lt-ltb _ _ u, lt-leb (length (bytesOf xs)) (length o) (omega (arith, bytes-length xs)))
-      | inr u ↦ rw (le-ltb _ _ u, le-leb (length (bytesOf xs)) (length o) (omega (arith, bytes-length xs)))
-    ]

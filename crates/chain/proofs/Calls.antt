@@ -22,7 +22,7 @@ use Rattle.table.proofs.Held.{kept-set}
 use Rattle.adding.specs.Adding.{Grows}
 use Rattle.chain.specs.Opening.{startWith}
 use Rattle.chain.specs.State.{State, changed, countAnswer}
-use Rattle.chain.specs.Acts.{Act, add, rescore, moving, moveAnswer, grounds, after, step, numberGiven}
+use Rattle.chain.specs.Acts.{Act, add, rescore, moving, moveAnswer, rescoreAnswer, grounds, after, step, numberGiven}
 use Rattle.chain.specs.View.{view, Sound, Does}
 use Rattle.chain.specs.declared.Session.{Session}
 use Rattle.chain.proofs.Judges.{Rescorable, rescorable, Movable, movable, count-room}
@@ -44,9 +44,13 @@ does-accepted s r act a e f v h =
     record { answers = e; leaves = v ∙ sym (ap (step (view s) act) f); sound = h; refused = λ n. absurd (n f) }
 
 -- Another score for number k.
-module _ (s : Session) (k : ℕ) (z : ℤ) (h : Sound s) {a : Answer} (e : a ≡ grounds (view s) (rescore k z)) where
+module _ (s : Session) (k : ℕ) (z : ℤ) (h : Sound s) {a : Answer} (e : a ≡ rescoreAnswer (view s) k z) where
+  is-rescore : a ≡ grounds (view s) (rescore k z)
+  unfolding grounds
+  is-rescore = e
+
   pub rescores-not : {g : Ground} {p : Place} → a ≡ Refused g p → Does s (rescore k z) a s
-  rescores-not {g} {p} f = does-refused s (rescore k z) a g p h e f
+  rescores-not {g} {p} f = does-refused s (rescore k z) a g p h is-rescore f
 
   module _ (ok : a ≡ Accepted) where
     pub score-known : Rescorable (view s) k z
@@ -64,7 +68,7 @@ module _ (s : Session) (k : ℕ) (z : ℤ) (h : Sound s) {a : Answer} (e : a ≡
 
       pub rescores : {r : Session} → (view r ≡ changed (view s) (rowsOf next)) × Sound r → Does s (rescore k z) a r
       unfolding withRow rowOf
-      rescores {r} w = does-accepted s r (rescore k z) a e ok (w .0 ∙ ap (changed (view s)) (n .is)) (w .1)
+      rescores {r} w = does-accepted s r (rescore k z) a is-rescore ok (w .0 ∙ ap (changed (view s)) (n .is)) (w .1)
 
 -- Another presence for number k.
 by-moving : (s : State) (k : ℕ) (to : Bool) → moveAnswer s k to ≡ grounds s (moving k to)

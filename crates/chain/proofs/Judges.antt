@@ -9,10 +9,11 @@ use lib.Dec.{leb}
 use borrow.Author.Tests.{leb-true, leb-false, not-false}
 use Rattle.answer.proofs.Given.{not-given}
 use Rattle.answer.specs.declared.Answer.the-variants.{Accepted}
+use Rattle.seed.specs.declared.Pair.{Pair}
 use Rattle.table.specs.Rows.{Row, noRow, givenOut, rowOf, summaryOf, inRange}
 use Rattle.table.specs.declared.Summary.{Summary}
 use Rattle.chain.specs.State.{State, countAnswer}
-use Rattle.chain.specs.Acts.{grounds, moveAnswer, rescore}
+use Rattle.chain.specs.Acts.{add, rescore, addAnswer, moveAnswer, rescoreAnswer, grounds}
 
 pub beq-true : (b : Bool) → b ≡ Bool·beq true b
 beq-true true = refl
@@ -41,14 +42,22 @@ pub count-room : (changes : ℕ) → countAnswer changes ≡ Accepted → change
 unfolding countAnswer
 count-room changes e = leb-false 1000000 changes (not-given _ _ _ _ e .0)
 
+-- An accepted call passed the grounds of its own.
+pub add-passed : (s : State) (ps : List Pair) (z : ℤ) → grounds s (add ps z) ≡ Accepted → addAnswer s ps z ≡ Accepted
+unfolding grounds
+add-passed s ps z e = e
+
+pub rescore-passed : (s : State) (k : ℕ) (z : ℤ) → grounds s (rescore k z) ≡ Accepted → rescoreAnswer s k z ≡ Accepted
+unfolding grounds
+rescore-passed s k z e = e
+
 -- What an accepted rescoring and an accepted moving know.
 pub record Rescorable (s : State) (k : ℕ) (z : ℤ) : Type 0 where
   pub number : Given (length (s .rows)) k
   pub ranged : inRange z ≡ true
   pub room : s .changes < 1000000
 
-pub rescorable : (s : State) (k : ℕ) (z : ℤ) → grounds s (rescore k z) ≡ Accepted → Rescorable s k z
-unfolding grounds
+pub rescorable : (s : State) (k : ℕ) (z : ℤ) → rescoreAnswer s k z ≡ Accepted → Rescorable s k z
 rescorable s k z e =
     let a = not-given _ _ _ _ e in
     let b = not-given _ _ _ _ (a .1) in

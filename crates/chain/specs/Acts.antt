@@ -47,16 +47,23 @@ deckOf s = plainOf (presentRows (s .rows))
 abbrev pub ofNumber : State → ℕ → Answer → Answer
 ofNumber s k later = given (not (givenOut (length (s .rows)) k)) NumberNotGiven Nothing later
 
+-- What an add answers: the grounds of the list as the next seed, then ground 20.
+abbrev pub addAnswer : State → List Pair → ℤ → Answer
+addAnswer s ps z = unless (nextAnswer (leavesOf (s .q)) (leavesOf (s .t)) (s .rows) ps z) (countAnswer (s .changes))
+
 -- Withdrawing and bringing back differ in ground 10 alone.
 abbrev pub moveAnswer : State → ℕ → Bool → Answer
 moveAnswer s k to = ofNumber s k (given (Bool·beq (rowOf (s .rows) k .present) to) PresenceAsAsked Nothing (countAnswer (s .changes)))
 
+abbrev pub rescoreAnswer : State → ℕ → ℤ → Answer
+rescoreAnswer s k z = ofNumber s k (given (not (inRange z)) ScoreRange (Seed k) (countAnswer (s .changes)))
+
 -- What each call answers.
 unfoldable pub grounds : State → Act → Answer
-grounds s (add ps z) = unless (nextAnswer (leavesOf (s .q)) (leavesOf (s .t)) (s .rows) ps z) (countAnswer (s .changes))
+grounds s (add ps z) = addAnswer s ps z
 grounds s (withdraw k) = moveAnswer s k false
 grounds s (bringBack k) = moveAnswer s k true
-grounds s (rescore k z) = ofNumber s k (given (not (inRange z)) ScoreRange (Seed k) (countAnswer (s .changes)))
+grounds s (rescore k z) = rescoreAnswer s k z
 grounds s (bestChain room) = given (ltb room scratchNeeded) ScratchShort Nothing Accepted
 grounds s (listAreas k room) = ofNumber s k (given (ltb room (length (areasOf s k) * 4)) OutputShort Nothing Accepted)
 grounds s (writeDeck room) = given (ltb room (length (deckOf s))) OutputShort Nothing Accepted

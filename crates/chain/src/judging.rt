@@ -11,7 +11,7 @@ ghost use mathlib.Core.Bool.{Bool·beq};
 ghost use Rattle.answer.specs.Answer.{unless};
 ghost use Rattle.table.specs.Rows.{givenOut};
 ghost use Rattle.chain.specs.State.{countAnswer};
-ghost use Rattle.chain.specs.Acts.{grounds, moveAnswer, rescore};
+ghost use Rattle.chain.specs.Acts.{moveAnswer, rescoreAnswer};
 ghost use Rattle.chain.specs.View.{view, Sound};
 
 // Whether the number is one of 1 to seeds.
@@ -52,7 +52,7 @@ pub fn counted(earlier: Answer, changes: usize) -> Answer
 
 // Grounds 9, 11 and 20.
 pub fn judge_rescore(s: Session, number: usize, score: i32) -> Answer
-    ensures { λ r. ⌜ r ≡ grounds (view s) (rescore number score) ⌝ }
+    ensures { λ r. ⌜ r ≡ rescoreAnswer (view s) number score ⌝ }
 {
     if !given_out(s.table.seeds, number) {
         return refused(Ground::NumberNotGiven, Place::Nothing);

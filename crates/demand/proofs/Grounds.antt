@@ -24,7 +24,7 @@ use Rattle.adding.specs.Adding.{limitAnswer, nextAnswer}
 use Rattle.optimum.proofs.Booleans.{T-eq}
 use Rattle.best.specs.Best.{scratchNeeded}
 use Rattle.chain.specs.State.{State, countAnswer}
-use Rattle.chain.specs.Acts.{Act, add, withdraw, bringBack, rescore, bestChain, listAreas, writeDeck, showRow, areasOf, deckOf, ofNumber, moveAnswer, grounds}
+use Rattle.chain.specs.Acts.{Act, add, withdraw, bringBack, rescore, bestChain, listAreas, writeDeck, showRow, areasOf, deckOf, ofNumber, addAnswer, moveAnswer, grounds}
 use Rattle.demand.specs.Grounds.{GivenOut, InRange, CountSays, NumberSays, nextNumber, AddSays, MoveSays, CallSays}
 
 -- The tests of the conditions.
@@ -58,8 +58,8 @@ module _ (s : State) where
   move-decides k to = numbered k (guard _ (tells-as-asked (rowOf (s .rows) k .present) to) PresenceAsAsked Nothing count-decides)
 
   module _ (tree-q : Nested (leavesOf (s .q))) (tree-t : Nested (leavesOf (s .t))) where
-    pub add-decides : (ps : List Pair) (z : ℤ) → Decides (AddSays s ps z) (grounds s (add ps z))
-    unfolding grounds nextAnswer limitAnswer
+    pub add-decides : (ps : List Pair) (z : ℤ) → Decides (AddSays s ps z) (addAnswer s ps z)
+    unfolding nextAnswer limitAnswer
     add-decides ps z =
         subst (Decides (AddSays s ps z)) (sym (regroup (limitAnswer (length (s .rows)) (pairCount (s .rows)) (length ps) z) _ _))
         (guards _ (tells-range z) ScoreRange (Seed (nextNumber s)) _ _

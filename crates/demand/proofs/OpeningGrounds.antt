@@ -30,7 +30,7 @@ use Rattle.deck.specs.Handed.{answerOf, rowsIn}
 use Rattle.deck.proofs.Grounds as decks
 use Rattle.deck.proofs.Accepted.{source, storable}
 use Rattle.chain.specs.State.{State, countAnswer}
-use Rattle.chain.specs.Acts.{add, grounds, after}
+use Rattle.chain.specs.Acts.{add, addAnswer, after}
 use Rattle.answer.specs.Answer.{given, unless}
 use Rattle.chain.specs.Opening.{opening, deckOpening}
 use Rattle.dealing.specs.Texts.{inT, bothOf, bothRead}
@@ -85,8 +85,8 @@ module _ (s : State) (row : Row) (rows : List Row) (fits : Fits s (row ∷ rows)
       }
 
   -- The answer to its add is that of grounds 11 and 15 to 19.
-  as-add : grounds s (add (row .pairs) (row .score)) ≡ seedAnswer (leavesOf (s .q)) (leavesOf (s .t)) (nextNumber s) row
-  unfolding grounds nextAnswer limitAnswer countAnswer flatten
+  as-add : addAnswer s (row .pairs) (row .score) ≡ seedAnswer (leavesOf (s .q)) (leavesOf (s .t)) (nextNumber s) row
+  unfolding nextAnswer limitAnswer countAnswer flatten
   as-add =
       rw (
         ne-eqb (length (row .pairs)) 0 (λ e. absurd (omega (arith, fits .some 0 (omega arith), e))),

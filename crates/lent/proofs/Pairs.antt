@@ -26,9 +26,10 @@ use Rattle.table.specs.Rows.{pairCount, inRange}
 use Rattle.judge.specs.Judge.{judgeOf}
 use Rattle.adding.specs.Adding.{limitAnswer, nextAnswer}
 use Rattle.chain.specs.State.{State, countAnswer}
-use Rattle.chain.specs.Acts.{add, grounds, step}
+use Rattle.chain.specs.Acts.{add, addAnswer, grounds, step}
 use Rattle.chain.specs.View.{view, Does}
 use Rattle.chain.specs.declared.Session.{Session}
+use Rattle.chain.proofs.Judges.{add-passed}
 use Rattle.lent.specs.Listing.{noNodes, withPair, withPairs, heldIn, Filled}
 use Rattle.lent.specs.declared.listing.Nodes.{Nodes}
 
@@ -133,8 +134,8 @@ never-accepted false false p e = denies {x = Refused PairLimit p} refl e
 abbrev manyAnswer : State → ℤ → Answer
 manyAnswer s z = tooMany (not (inRange z)) (leb 64 (length (s .rows))) (Seed (length (s .rows) + 1))
 
-pub add-many : (s : State) (ps : List Pair) (z : ℤ) → 1024 < length ps → grounds s (add ps z) ≡ manyAnswer s z
-unfolding grounds nextAnswer
+pub add-many : (s : State) (ps : List Pair) (z : ℤ) → 1024 < length ps → addAnswer s ps z ≡ manyAnswer s z
+unfolding nextAnswer
 add-many s ps z h =
     let judged : Answer = judgeOf (leavesOf (s .q)) (leavesOf (s .t)) ps (length (s .rows) + 1) in
     let counted : Answer = countAnswer (s .changes) in
@@ -143,13 +144,20 @@ add-many s ps z h =
     ∙ ap (λ (x : Answer). unless x counted) (denied (not (inRange z)) (leb 64 (length (s .rows))) number judged)
     ∙ denied (not (inRange z)) (leb 64 (length (s .rows))) number counted
 
+-- So an add of more pairs answers the same whatever they are, and is refused.
+alike-many : (s : State) (ps ps′ : List Pair) (z : ℤ) → 1024 < length ps → 1024 < length ps′ → grounds s (add ps z) ≡ grounds s (add ps′ z)
+unfolding grounds
+alike-many s ps ps′ z h h′ = rw (add-many s ps z h, add-many s ps′ z h′)
+
+refused-many : (s : State) (ps : List Pair) (z : ℤ) → 1024 < length ps → grounds s (add ps z) ≡ Accepted → ⊥
+refused-many s ps z h e = never-accepted (not (inRange z)) (leb 64 (length (s .rows))) _ (sym (add-many s ps z h) ∙ add-passed s ps z e)
+
 -- So the pairs held are added as the whole list is.
 does-many : (s r : Session) (ps ps′ : List Pair) (z : ℤ) (a : Answer) → 1024 < length ps → 1024 < length ps′ → Does s (add ps z) a r → Does s (add ps′ z) a r
 does-many s r ps ps′ z a h h′ d =
-    let answers = d .answers ∙ add-many (view s) ps z h in
-    let denial : a ≡ Accepted → ⊥ = λ e. never-accepted (not (inRange z)) (leb 64 (length (view s .rows))) _ (sym answers ∙ e) in
+    let denial : a ≡ Accepted → ⊥ = λ e. refused-many (view s) ps z h (sym (d .answers) ∙ e) in
     record {
-      answers = answers ∙ sym (add-many (view s) ps′ z h′);
+      answers = d .answers ∙ alike-many (view s) ps ps′ z h h′;
       leaves = ap view (d .refused denial) ∙ sym (refused-still a denial);
       sound = d .sound;
       refused = d .refused;

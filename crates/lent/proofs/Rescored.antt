@@ -12,15 +12,15 @@ use Rattle.answer.specs.declared.Answer.the-variants.{Accepted}
 use Rattle.table.specs.Rows.{Row, noRow, rowOf, withRow, withScore}
 use Rattle.table.specs.Table.{rowsOf}
 use Rattle.chain.specs.State.{State, changed}
-use Rattle.chain.specs.Acts.{rescore, grounds, step}
+use Rattle.chain.specs.Acts.{rescore, rescoreAnswer, step}
 use Rattle.chain.specs.View.{view, Does}
 use Rattle.chain.specs.declared.Session.{Session}
 use Rattle.lent.specs.Rescored.{OnlyScore, Rescored}
-use Rattle.chain.proofs.Judges.{Given, rescorable}
+use Rattle.chain.proofs.Judges.{Given, rescore-passed, rescorable}
 
 module _ (s next : Session) (k : ℕ) (z : ℤ) (a : Answer) (d : Does s (rescore k z) a next) (ok : a ≡ Accepted) where
-  passed : grounds (view s) (rescore k z) ≡ Accepted
-  passed = sym (d .answers) ∙ ok
+  passed : rescoreAnswer (view s) k z ≡ Accepted
+  passed = rescore-passed (view s) k z (sym (d .answers) ∙ ok)
 
   number : Given (length (rowsOf (s .table))) k
   number = rescorable (view s) k z passed .number

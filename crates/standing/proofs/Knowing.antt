@@ -6,8 +6,7 @@ use mathlib.Core.Logic.{_⊎_, inl, inr}
 use Prim.Native.Nat.{ℕ, _-_, _^_, _≤_, _<_}
 use native.Mathlib.Omega.{arith}
 use borrow.Author.Tests.{eq-eqb, lt-ltb}
-use lib.Bits.{bitOr, or-lt}
-use lib.Pow.{pow-lt}
+use lib.Bits.{bitOr}
 use lib.Dec.{ltb→lt}
 use lib.ListN.{getD}
 use Rattle.seed.specs.AreaList.{left, under}
@@ -58,14 +57,6 @@ module _ (mask : ℕ) (on : Bool) (k more : ℕ) {r : ℕ} (e : r ≡ widenedBy 
       ap (λ (m : ℕ). inMask m k) (e ∙ ap (λ (b : Bool). widenedBy mask b k more) f)
       ∙ either (bitOr mask (2 ^ k)) more k
       ∙ or-left (inMask (bitOr mask (2 ^ k)) k) (inMask more k) (either mask (2 ^ k) k ∙ or-right (inMask mask k) (inMask (2 ^ k) k) (alone-has k k ∙ eq-eqb k k refl))
-
-small-if : (mask : ℕ) (on : Bool) (k more : ℕ) → mask < 2 ^ 64 → k < 64 → more < 2 ^ 64 → widenedBy mask on k more < 2 ^ 64
-unfolding widenedBy
-small-if mask false k more a b c = a
-small-if mask true k more a b c = or-lt 64 (bitOr mask (2 ^ k)) more (or-lt 64 mask (2 ^ k) a (pow-lt b)) c
-
-pub wide-small : (mask : ℕ) (on : Bool) (k more : ℕ) {r : ℕ} → r ≡ widenedBy mask on k more → mask < 2 ^ 64 → k < 64 → more < 2 ^ 64 → r < 2 ^ 64
-wide-small mask on k more e a b c = rw e (small-if mask on k more a b c)
 
 -- ---- the masks of the seeds before place y, of which those in the mask rest are still to be looked at
 

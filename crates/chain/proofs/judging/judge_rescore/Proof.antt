@@ -2,7 +2,6 @@
 use mir.Facts.{toZ-ofZ}
 use Rattle.answer.proofs.Given.{tested}
 use Rattle.table.proofs.Tables.{rows-length}
-use Rattle.chain.specs.Acts.{grounds}
 use borrow.Author.Needs.{needs}
 use Rattle.chain.proofs.judging.judge_rescore.Statement.{statement}
 use Rattle.chain.proofs.judging.judge_rescore.Tie as tie
@@ -14,7 +13,6 @@ refused-requires : tie.Need-refused-requires
 refused-requires c κs = search needs
 
 returns : tie.Need-returns
-unfolding grounds
 returns c =
     let start = c .before .before .before in
     rw (rows-length (start .args .s .table), tested (c .before .before .given-out .ensures) (c .before .if1 .taken)) (c .refused .ensures)
@@ -26,7 +24,6 @@ refused-requires-2 : tie.Need-refused-requires-2
 refused-requires-2 c κs = search needs
 
 returns-2 : tie.Need-returns-2
-unfolding grounds
 returns-2 c =
     let start = c .before .before .before .before .before in
     rw (rows-length (start .args .s .table), tested (c .before .before .before .before .given-out .ensures) (c .before .before .before .if1 .left), tested (rw (toZ-ofZ (start .fits .score)) at (c .before .before .in-range .ensures)) (c .before .if2 .taken)) (c .refused2 .ensures)
@@ -35,7 +32,6 @@ judge-count-requires : tie.Need-judge-count-requires
 judge-count-requires c κs = search needs
 
 returns-3 : tie.Need-returns-3
-unfolding grounds
 returns-3 c =
     let start = c .before .before .before .before .before in
     rw (rows-length (start .args .s .table), tested (c .before .before .before .before .given-out .ensures) (c .before .before .before .if1 .left), tested (rw (toZ-ofZ (start .fits .score)) at (c .before .before .in-range .ensures)) (c .before .if2 .left)) (c .judge-count .ensures)
