@@ -1,42 +1,51 @@
--- Demand 2 of the session: a list of pairs is added exactly if it is a seed within the limits, and the deck that a session writes is read back,
--- on the same texts, as its present seeds.
-use mathlib.Core.Path.{_≡_, refl, ap, _∙_}
-use mathlib.Core.Logic.{_↔_}
+-- Demand 2 of the session: what is written of a deck that was opened is its plain form, and the deck that a session writes is opened, on the
+-- same texts, with its present rows by the history.
+use mathlib.Core.Path.{_≡_, refl, sym, ap, ap₂, subst, _∙_}
 use mathlib.Core.Bool.{Bool, true, false, cond, _&&_}
 use mathlib.Core.List.{List, [], _∷_, flatten}
 use Prim.Native.Nat.{ℕ, suc, _+_, _≤_, _<_}
 use native.Mathlib.Omega.{arith}
-use lib.ListN.{length, getD, length-append}
+use lib.ListN.{length, take, length-append}
 use lib.IntN.{ℤ, pos, negsuc}
 use lib.Signed.{mag, leZ}
-use borrow.Author.Tests.{leb-true, lt-leb}
-use Rattle.answer.specs.Answer.{unless}
+use lib.Dec.{ltb}
+use borrow.Author.Tests.{leb-true, lt-leb, le-leb, ltb-true, ltb-false}
 use Rattle.answer.specs.declared.Answer.{Answer}
 use Rattle.answer.specs.declared.Answer.the-variants.{Accepted}
-use Rattle.answer.proofs.Given.{not-refused}
+use Rattle.answer.proofs.Given.{not-given}
+use Rattle.write.specs.Wrote.{writtenOf, outputOf, Wrote}
+use Rattle.write.specs.declared.Written.{Written}
+use Rattle.write.proofs.Wrote.{wrote-front}
+use Rattle.tree.specs.Run.{Run}
 use Rattle.tree.specs.Nested.{Nested}
-use Rattle.tree.specs.Reading.{leavesOf}
+use Rattle.tree.specs.Reading.{Spells, leavesOf, treeOf}
+use Rattle.tree.specs.declared.Tree.{Tree}
 use Rattle.tree.proofs.Trees.{tree-nested}
-use Rattle.seed.specs.declared.Pair.{Pair}
 use Rattle.judge.proofs.Grounds.{accepts-seeds}
-use Rattle.table.specs.Rows.{Row, noRow, pairCount, presentRows, inRange, AllHold}
+use Rattle.table.specs.Rows.{Row, pairCount, presentRows, inRange, AllHold}
 use Rattle.table.specs.Table.{rowsOf}
 use Rattle.table.proofs.Tables.{rows-length, rows-count}
-use Rattle.adding.specs.Adding.{nextAnswer, Addable}
-use Rattle.adding.proofs.Next.{next-exactly}
 use Rattle.deck.specs.Deck as deck
 use Rattle.deck.specs.Deck.{chainsOf}
+use Rattle.deck.specs.Handed.{rowsIn}
+use Rattle.deck.proofs.Accepted.{reading-present}
 use Rattle.plain.specs.Plain.{plainOf, All, RowInLimits}
 use Rattle.plain.proofs.RoundTrip.{read-plain}
 use Rattle.dealing.specs.Texts.{bothRead}
 use Rattle.dealing.specs.Seeds.{seedsAnswer}
 use Rattle.dealing.specs.Deal.{deckAnswer, dealAnswer, dealOf}
-use Rattle.chain.specs.State.{countAnswer}
-use Rattle.chain.specs.Acts.{add, grounds, deckOf}
+use Rattle.chain.specs.State.{State}
+use Rattle.chain.specs.Acts.{writeDeck, grounds, deckOf}
 use Rattle.chain.specs.View.{view, Sound}
-use Rattle.chain.specs.Opening.{startWith, deckOpening}
+use Rattle.chain.specs.Opening.{Outcome, startWith, deckOpening, Opens}
+use Rattle.chain.specs.Looking.{Writes}
 use Rattle.chain.specs.declared.Session.{Session}
-use Rattle.chain.proofs.Judges.{count-room}
+use Rattle.demand.specs.History.{Event, stateOf}
+use Rattle.demand.specs.Reached.{Reached}
+use Rattle.demand.specs.Reached.Reached.{opened}
+use Rattle.demand.specs.Demands.{OpenedOn, tableBy}
+use Rattle.demand.proofs.Histories.{reached-sound, by-history, trees-stay}
+use Rattle.demand.proofs.Openings.{both-spelled, deck-state, opened-state}
 
 -- A score in range is stored as it is.
 and-left : (a b : Bool) → (a && b) ≡ true → a ≡ true
@@ -86,11 +95,6 @@ present-pairs (r ∷ rs) = go (present-pairs rs) (r .present)
     go rest true = omega (arith, rest, length-append (r .pairs) (flatten (chainsOf (presentRows rs))))
     go rest false = omega (arith, rest)
 
--- A list of pairs that a session takes: a seed within the limits, and the count has room for a change.
-pub record Takes (s : Session) (ps : List Pair) (z : ℤ) : Type 0 where
-  pub addable : Addable (leavesOf (s .q)) (leavesOf (s .t)) (rowsOf (s .table)) ps z
-  pub room : s .changes < 1000000
-
 module _ (s : Session) (h : Sound s) where
   tree-q : Nested (leavesOf (s .q))
   tree-q = tree-nested (s .q) (h .kept .is-q)
@@ -98,20 +102,7 @@ module _ (s : Session) (h : Sound s) where
   tree-t : Nested (leavesOf (s .t))
   tree-t = tree-nested (s .t) (h .kept .is-t)
 
-  -- A list of pairs with a score is added exactly if the session takes it.
-  pub adds-exactly : (ps : List Pair) (z : ℤ) → (grounds (view s) (add ps z) ≡ Accepted) ↔ Takes s ps z
-  unfolding grounds countAnswer
-  adds-exactly ps z = (known, λ w. rw (exactly .1 (w .addable), lt-leb 1000000 (s .changes) (w .room)))
-    where
-      exactly : (nextAnswer (leavesOf (s .q)) (leavesOf (s .t)) (rowsOf (s .table)) ps z ≡ Accepted) ↔ Addable (leavesOf (s .q)) (leavesOf (s .t)) (rowsOf (s .table)) ps z
-      exactly = next-exactly tree-q tree-t (rowsOf (s .table)) ps z
-
-      known : unless (nextAnswer (leavesOf (s .q)) (leavesOf (s .t)) (rowsOf (s .table)) ps z) (countAnswer (s .changes)) ≡ Accepted → Takes s ps z
-      known e =
-          let a = not-refused (nextAnswer (leavesOf (s .q)) (leavesOf (s .t)) (rowsOf (s .table)) ps z) (countAnswer (s .changes)) e in
-          record { addable = exactly .0 (a .0); room = count-room (s .changes) (a .1) }
-
-  pub deck-read : deck.reading (plainOf (presentRows (rowsOf (s .table)))) ≡ deck.Reading.accepted (presentRows (rowsOf (s .table)))
+  deck-read : deck.reading (plainOf (presentRows (rowsOf (s .table)))) ≡ deck.Reading.accepted (presentRows (rowsOf (s .table)))
   deck-read =
       let rows : List Row = rowsOf (s .table) in
       read-plain (presentRows rows)
@@ -122,6 +113,55 @@ module _ (s : Session) (h : Sound s) where
       }
 
   -- Opening on the texts of the session's trees and its deck hands over the present seeds, numbered from 1 in order.
-  pub deck-reopened : (q t : List ℕ) → bothRead q t ≡ record { answer = Accepted; q = s .q; t = s .t } → deckOpening q t (plainOf (presentRows (rowsOf (s .table)))) ≡ record { answer = Accepted; state = startWith (s .q) (s .t) (presentRows (rowsOf (s .table))) }
+  deck-reopened : (q t : List ℕ) → bothRead q t ≡ record { answer = Accepted; q = s .q; t = s .t } → deckOpening q t (plainOf (presentRows (rowsOf (s .table)))) ≡ record { answer = Accepted; state = startWith (s .q) (s .t) (presentRows (rowsOf (s .table))) }
   unfolding deckOpening dealOf dealAnswer deckAnswer
   deck-reopened q t e = rw (e, deck-read, present-judged tree-q tree-t (rowsOf (s .table)) (h .kept .each) 1)
+
+-- What is written after any list of calls: the plain form of the rows that are present by the history, whole, or ground 22.
+writes-plain : (s : State) (before after : List ℕ) (w : Written) → Writes s before after w → Wrote (deckOf s) before after w
+unfolding grounds writtenOf outputOf
+writes-plain s before after w x = go (ltb (length before) (length (deckOf s))) refl
+  where
+    go : (b : Bool) → ltb (length before) (length (deckOf s)) ≡ b → Wrote (deckOf s) before after w
+    go true e =
+        let f = lt-leb (length (deckOf s)) (length before) (ltb-true (length before) (length (deckOf s)) e) in
+        record { answers = x .answers ∙ rw (e, f); leaves = x .output ∙ rw (e, f) }
+    go false e =
+        let f = le-leb (length (deckOf s)) (length before) (ltb-false (length before) (length (deckOf s)) e) in
+        record { answers = x .answers ∙ rw (e, f); leaves = x .output ∙ rw (e, f) }
+
+module _ {o : Outcome} {s : Session} {h : List Event} (reached : Reached o s h) {before after : List ℕ} {w : Written} (x : Writes (view s) before after w) where
+  pub deck-by-history : Wrote (plainOf (presentRows (stateOf (o .state) h .rows))) before after w
+  unfolding deckOf
+  deck-by-history = subst (λ (y : State). Wrote (plainOf (presentRows (y .rows))) before after w) (by-history reached) (writes-plain (view s) before after w x)
+
+  -- The output has room for an accepted deck, and so holds it.
+  deck-written : w .answer ≡ Accepted → take (w .length) after ≡ plainOf (presentRows (view s .rows))
+  unfolding grounds deckOf
+  deck-written ok =
+      let passed : grounds (view s) (writeDeck (length before)) ≡ Accepted = sym (ap (λ (y : Written). y .answer) (x .answers)) ∙ ok in
+      let room = ltb-false (length before) (length (deckOf (view s))) (not-given _ _ _ _ passed .0) in
+      wrote-front (deckOf (view s)) before after w room (writes-plain (view s) before after w x)
+
+  -- Opened on the same texts, it gives the rows that were present, numbered from 1 in order.
+  pub written-then-opened : {r p : Run} {rows : List Row} → OpenedOn o r p rows → (q t : List ℕ) → Spells r q → Spells p t → w .answer ≡ Accepted
+      → {a : Answer} {again : Session} → Opens (deckOpening q t (take (w .length) after)) a again
+      → (a ≡ Accepted) × (view again ≡ startWith (treeOf r) (treeOf p) (presentRows (tableBy r p rows h)))
+  written-then-opened {r} {p} {rows} on q t spells-q spells-t ok {a} {again} opens =
+      let state : view s ≡ stateOf (startWith (treeOf r) (treeOf p) rows) h = by-history reached ∙ ap (λ (y : State). stateOf y h) (opened-state on) in
+      let stay = trees-stay (startWith (treeOf r) (treeOf p) rows) h in
+      let tree-q : s .q ≡ treeOf r = ap (λ (y : State). y .q) state ∙ stay .0 in
+      let tree-t : s .t ≡ treeOf p = ap (λ (y : State). y .t) state ∙ stay .1 in
+      let both : bothRead q t ≡ record { answer = Accepted; q = s .q; t = s .t } = both-spelled spells-q spells-t ∙ ap₂ (λ (y z : Tree). record { answer = Accepted; q = y; t = z }) (sym tree-q) (sym tree-t) in
+      let outcome = ap (deckOpening q t) (deck-written ok) ∙ deck-reopened s (reached-sound reached) q t both in (
+        opens .answers ∙ ap (λ (y : Outcome). y .answer) outcome,
+        opens .leaves ∙ ap (λ (y : Outcome). y .state) outcome ∙ ap₂ (λ (y z : Tree). startWith y z (presentRows (view s .rows))) tree-q tree-t ∙ ap (λ (y : State). startWith (treeOf r) (treeOf p) (presentRows (y .rows))) state,
+      )
+
+-- An accepted deck that is opened and written is put in plain form.
+pub opened-then-written : (q t d : List ℕ) {s : Session} → Opens (deckOpening q t d) Accepted s → {before after : List ℕ} {w : Written} → Writes (view s) before after w → Wrote (plainOf (rowsIn (deck.reading d))) before after w
+unfolding stateOf
+opened-then-written q t d {s} o {before} {after} {w} x =
+    subst (λ (rows : List Row). Wrote (plainOf rows) before after w)
+    (ap (λ (y : State). presentRows (y .rows)) (deck-state q t d (sym (o .answers))) ∙ reading-present d)
+    (deck-by-history (opened o) x)

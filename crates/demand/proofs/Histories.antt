@@ -9,7 +9,7 @@ use Rattle.area.specs.declared.Listed.{Listed}
 use Rattle.best.specs.declared.Best.{Best}
 use Rattle.write.specs.declared.Written.{Written}
 use Rattle.chain.specs.State.{State}
-use Rattle.chain.specs.Acts.{Act, grounds, after}
+use Rattle.chain.specs.Acts.{Act, add, withdraw, bringBack, rescore, bestChain, listAreas, writeDeck, showRow, grounds, after}
 use Rattle.chain.specs.View.{view, Sound, Does}
 use Rattle.chain.specs.Opening.{Outcome, Opens}
 use Rattle.chain.specs.declared.Session.{Session}
@@ -45,6 +45,26 @@ pub reached-sound : {o : Outcome} {s : Session} {h : List Event} → Reached o s
 reached-sound (opened w) = w .sound
 reached-sound (called w d) = d .sound
 reached-sound (looked w l) = reached-sound w
+
+-- No list of calls changes the two trees.
+trees-after : (act : Act) (s : State) → (after act s .q ≡ s .q) × (after act s .t ≡ s .t)
+trees-after (add ps z) s = (refl, refl)
+trees-after (withdraw k) s = (refl, refl)
+trees-after (bringBack k) s = (refl, refl)
+trees-after (rescore k z) s = (refl, refl)
+trees-after (bestChain room) s = (refl, refl)
+trees-after (listAreas k room) s = (refl, refl)
+trees-after (writeDeck room) s = (refl, refl)
+trees-after (showRow k) s = (refl, refl)
+
+pub trees-stay : (start : State) (h : List Event) → (stateOf start h .q ≡ start .q) × (stateOf start h .t ≡ start .t)
+unfolding stateOf
+trees-stay start [] = (refl, refl)
+trees-stay start (e ∷ es) = go (stateOf start es) (trees-stay start es) (e .accepted)
+  where
+    go : (x : State) → (x .q ≡ start .q) × (x .t ≡ start .t) → (b : Bool) → (cond b (after (e .act) x) x .q ≡ start .q) × (cond b (after (e .act) x) x .t ≡ start .t)
+    go x v true = let w = trees-after (e .act) x in (w .0 ∙ v .0, w .1 ∙ v .1)
+    go x v false = v
 
 -- Every call, whose contract is a function of the state, answers by the opening, the calls, their arguments and which were accepted, so that 13,
 -- 14 and 20 come exactly when these say so.

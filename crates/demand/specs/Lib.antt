@@ -1,3 +1,5 @@
 pub mod History
 pub mod Reached
 pub mod Grounds
+pub mod Demands
+pub mod Examples

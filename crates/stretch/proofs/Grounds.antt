@@ -27,7 +27,8 @@ module _ (s : List ℕ) (a b : ℕ) where
     where
       none : IsStretch s a b → ⊥
       none w =
-          let other : reading s ≡ accepted (w .run) = accepted-exactly s (w .run) .1 (w .spells, w .meant, accepted-spell s r e .2) in
+          let text = accepted-exactly s r .0 e in
+          let other : reading s ≡ accepted (w .run) = accepted-exactly s (w .run) .1 (record { bytes = w .spells; meant = w .meant; some = text .some; few = text .few }) in
           let same : w .run ≡ r = cc in
           no-stretch r a b .0 f (w .before) (w .items) (subst (λ (q : Run). Stretch q a b (w .before) (w .items)) same (w .stretch))
 

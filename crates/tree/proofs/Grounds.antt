@@ -16,7 +16,7 @@ use Rattle.answer.specs.declared.Answer.the-variants.{Accepted, Refused}
 use Rattle.answer.proofs.Denied.{clash}
 use Rattle.answer.proofs.Grounds.{ground, ground-first, ground-never, stops, goes-on}
 use Rattle.tree.specs.Run.{Run, spell}
-use Rattle.tree.specs.Reading.{meaningOf, Meant, Runs, first, runs, Reading, reading, answerOf, badLength, firstRefused, stopped, groundAt}
+use Rattle.tree.specs.Reading.{meaningOf, Meant, Spells, Runs, first, runs, Reading, reading, answerOf, badLength, firstRefused, stopped, groundAt}
 use Rattle.tree.specs.Reading.Runs.{last, more}
 use Rattle.tree.specs.Reading.Reading.{accepted, refused}
 use Rattle.tree.specs.Grounds.{UnknownByteAt, Closes, Closed, ClosesNothingAt, NeverClosedAt, LengthRefused, TextSays}
@@ -24,7 +24,7 @@ use Rattle.tree.specs.declared.character.Meaning.{Meaning}
 use Rattle.tree.specs.declared.character.Meaning.the-variants.{Opening, Closing}
 use Rattle.tree.proofs.Leaves.{lt-or-le}
 use Rattle.tree.proofs.FirstRefused.{refused-there, refused-first, refused-never, within, Clean, clean, clean-front}
-use Rattle.tree.proofs.Lengths.{tells-length}
+use Rattle.tree.proofs.Lengths.{length-some, length-few, length-fits, tells-length}
 use Rattle.tree.proofs.Splits.{Stop, Splits, splits, begins, ended, after}
 use Rattle.tree.proofs.Splits.Stop.{none, open-at, bad-at}
 use Rattle.tree.proofs.Spelling.{read-spell, first-meant}
@@ -137,7 +137,7 @@ read-accepts r m fits =
     ∙ ap (λ (x : Runs). stopped (spell r) (first x)) (read-spell r m)
     ∙ stopped-end (spell r) fits (spell-known r m) r refl
 
--- A text is accepted with a run exactly if that run spells it, and its length is none that ground 1 turns down.
+-- A text is accepted with a run exactly if that run spells it.
 module _ (s : List ℕ) (r : Run) (e : reading s ≡ accepted r) where
   spelled-by : badLength (length s) ≡ false → length s ≤ firstRefused s → (t : List ℕ) → s ≡ spell (first (runs s)) ++ t → (s ≡ spell r) × Meant r
   spelled-by fits known [] f =
@@ -156,8 +156,8 @@ module _ (s : List ℕ) (r : Run) (e : reading s ≡ accepted r) where
           (λ u. let w = begins s (runs s) (splits s) in let v = spelled-by h u (w .0) (w .1) in (v .0, v .1, h))
           (lt-or-le (firstRefused s) (length s))
 
-pub accepted-exactly : (s : List ℕ) (r : Run) → (reading s ≡ accepted r) ↔ ((s ≡ spell r) × Meant r × (badLength (length s) ≡ false))
+pub accepted-exactly : (s : List ℕ) (r : Run) → (reading s ≡ accepted r) ↔ Spells r s
 accepted-exactly s r = (
-  accepted-spell s r,
-  λ w. ap reading (w .0) ∙ read-accepts r (w .1) (subst (λ (l : List ℕ). badLength (length l) ≡ false) (w .0) (w .2)),
+  λ e. let w = accepted-spell s r e in record { bytes = w .0; meant = w .1; some = length-some (length s) (w .2); few = length-few (length s) (w .2) },
+  λ w. ap reading (w .bytes) ∙ read-accepts r (w .meant) (subst (λ (l : List ℕ). badLength (length l) ≡ false) (w .bytes) (length-fits (length s) (w .some) (w .few))),
 )

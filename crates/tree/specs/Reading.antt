@@ -1,7 +1,7 @@
 -- What reading a text must answer (document 01, "Structures as trees", grounds 1 to 4). Assumes nothing.
 use mathlib.Core.Path.{_≡_}
 use mathlib.Core.Bool.{Bool, true, false, cond, _&&_}
-use Prim.Native.Nat.{ℕ, suc, _+_, _-_, _≤_}
+use Prim.Native.Nat.{ℕ, suc, _+_, _-_, _≤_, _<_}
 use mathlib.Core.List.{List, [], _∷_, _++_}
 use lib.ListN.{length, getD, take, replicate}
 use lib.Dec.{eqb, ltb}
@@ -26,6 +26,13 @@ abbrev pub Meant : Run → Type 0
 Meant end = Unit {0}
 Meant (dot c r) = (meaningOf c ≡ Unpaired) × Meant r
 Meant (pair o i c r) = (meaningOf o ≡ Opening) × Meant i × (meaningOf c ≡ Closing) × Meant r
+
+-- A run spells a text of 1 to 255 bytes.
+pub record Spells (r : Run) (s : List ℕ) : Type 0 where
+  pub bytes : s ≡ spell r
+  pub meant : Meant r
+  pub some : 0 < length s
+  pub few : length s ≤ 255
 
 -- The runs that a text splits into at the closing bytes that close nothing in it. What follows the last run is the end of the text, an
 -- opening byte that is never closed, or a refused byte.

@@ -1,0 +1,110 @@
+-- The starred examples of document 01, as rows of one list: what the definitions give, and what the document says.
+use mathlib.Core.Path.{_≡_}
+use mathlib.Core.Bool.{Bool, true, false, cond}
+use mathlib.Core.List.{List, [], _∷_, map}
+use Prim.Native.Nat.{ℕ, zero, suc}
+use lib.IntN.{ℤ, pos, negsuc}
+use Rattle.answer.specs.Answer.{Said, said}
+use Rattle.answer.specs.Answer.Said.{accepted, refused}
+use Rattle.answer.specs.declared.Place.the-variants.{Seed}
+use Rattle.write.specs.Decimal.{bytes}
+use Rattle.tree.specs.Reading.{leavesOf}
+use Rattle.stretch.specs.Stretch.{partOf}
+use Rattle.seed.specs.Seed.{qs, ts}
+use Rattle.seed.specs.Tests.{paired}
+use Rattle.seed.specs.AreaList.{bytesOf}
+use Rattle.seed.specs.declared.Pair.{Pair}
+use Rattle.best.specs.declared.Best.{Best}
+use Rattle.chain.specs.State.{State}
+use Rattle.chain.specs.Acts.{Act, add, rescore, withdraw, bestChain, grounds, step, areasOf}
+use Rattle.chain.specs.Opening.{opening}
+use Rattle.chain.specs.Looking.{bestBy, keyIn}
+
+-- A is `(.(.)).` and B is `(.)(.)`; A is Q and B is T.
+abbrev pub A : List ℕ
+A = bytes "(.(.))."
+
+abbrev pub B : List ℕ
+B = bytes "(.)(.)"
+
+abbrev pub onAB : State
+onAB = opening A B .state
+
+abbrev pub one : ℕ → ℕ → List Pair
+one q t = record { q = q; t = t } ∷ []
+
+abbrev pub two : ℕ → ℕ → ℕ → ℕ → List Pair
+two q t u v = record { q = q; t = t } ∷ one u v
+
+-- The state that a call leaves.
+abbrev pub doing : State → Act → State
+doing s act = step s act (grounds s act)
+
+-- What an add says.
+abbrev pub adding : List Pair → Said
+adding ps = said (grounds onAB (add ps (pos 0)))
+
+-- The border nodes of a list in one tree that are not in it.
+abbrev pub unpairedFrom : List ℕ → List ℕ → ℕ → ℕ → List ℕ
+unpairedFrom l xs n zero = []
+unpairedFrom l xs n (suc more) = cond (paired l xs n) (unpairedFrom l xs (suc n) more) (n ∷ unpairedFrom l xs (suc n) more)
+
+-- The total of the best chain and its numbers.
+abbrev pub numbersFrom : ℕ → List Bool → List ℕ
+numbersFrom n [] = []
+numbersFrom n (true ∷ bs) = n ∷ numbersFrom (suc n) bs
+numbersFrom n (false ∷ bs) = numbersFrom (suc n) bs
+
+abbrev pub answered : State → Best
+answered s = bestBy (grounds s (bestChain 4096)) (keyIn s)
+
+abbrev pub chained : State → List ℕ
+chained s = answered s .total ∷ numbersFrom 1 (answered s .chain)
+
+-- The five seeds added; then seed 4 rescored to 4; then 2 withdrawn.
+abbrev pub five : State
+five = doing (doing (doing (doing (doing onAB (add (one 2 1) (pos 3))) (add (one 4 3) (pos 2))) (add (one 1 0) (pos 1))) (add (one 3 1) (pos 3))) (add (one 0 2) (negsuc 0))
+
+abbrev pub fourRescored : State
+fourRescored = doing five (rescore 4 (pos 4))
+
+abbrev pub twoWithdrawn : State
+twoWithdrawn = doing fourRescored (withdraw 2)
+
+-- An example: what the definitions give, and what the document says.
+pub data Example : Type 0 where
+  says : Said → Said → Example
+  lists : List ℕ → List ℕ → Example
+
+abbrev pub starred : List Example
+starred =
+    lists (leavesOf (onAB .q)) (0 ∷ 1 ∷ 1 ∷ 0 ∷ 4 ∷ 0 ∷ [])
+    ∷ lists (leavesOf (onAB .t)) (0 ∷ 0 ∷ 2 ∷ 2 ∷ 0 ∷ [])
+    ∷ says (adding (two 2 0 5 4)) (refused 19 (Seed 1))
+    -- Q's node 3 is the unpaired one.
+    ∷ lists (unpairedFrom (leavesOf (onAB .q)) (qs (two 2 0 5 4)) 0 6) (3 ∷ [])
+    ∷ lists (unpairedFrom (leavesOf (onAB .t)) (ts (two 2 0 5 4)) 0 5) []
+    ∷ says (adding (two 0 0 1 1)) (refused 17 (Seed 1))
+    ∷ says (adding (two 0 0 4 2)) (refused 18 (Seed 1))
+    ∷ says (adding (two 1 0 3 1)) accepted
+    ∷ lists (bytesOf (areasOf (doing onAB (add (two 3 1 5 4) (pos 0))) 1)) (0 ∷ 2 ∷ 0 ∷ 0 ∷ 4 ∷ 4 ∷ 2 ∷ 3 ∷ [])
+    -- The stretches of the two areas.
+    ∷ lists (partOf A 0 2) (bytes ".(.)")
+    ∷ lists (partOf B 0 0) (bytes ".")
+    ∷ lists (partOf A 4 4) (bytes ".")
+    ∷ lists (partOf B 2 3) (bytes "(.)")
+    ∷ lists (chained onAB) (0 ∷ [])
+    ∷ lists (chained (doing onAB (add (one 2 1) (pos 0)))) (0 ∷ [])
+    ∷ lists (chained (doing onAB (add (one 2 1) (negsuc 0)))) (0 ∷ [])
+    ∷ lists (chained five) (6 ∷ 1 ∷ 2 ∷ 3 ∷ [])
+    -- 2 3 4 ties: without seed 1 it is the best chain.
+    ∷ lists (chained (doing five (withdraw 1))) (6 ∷ 2 ∷ 3 ∷ 4 ∷ [])
+    ∷ lists (chained fourRescored) (7 ∷ 2 ∷ 3 ∷ 4 ∷ [])
+    ∷ lists (chained twoWithdrawn) (5 ∷ 3 ∷ 4 ∷ [])
+    ∷ []
+
+-- Each holds: the two are the same.
+abbrev pub Hold : List Example → Type 0
+Hold [] = Unit {0}
+Hold (says got wanted ∷ rest) = (got ≡ wanted) × Hold rest
+Hold (lists got wanted ∷ rest) = (got ≡ wanted) × Hold rest
