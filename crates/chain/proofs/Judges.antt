@@ -42,10 +42,14 @@ pub count-room : (changes : ℕ) → countAnswer changes ≡ Accepted → change
 unfolding countAnswer
 count-room changes e = leb-false 1000000 changes (not-given _ _ _ _ e .0)
 
--- An accepted call passed the grounds of its own.
+-- An accepted call passed the grounds of its own, and these are all that it must pass.
 pub add-passed : (s : State) (ps : List Pair) (z : ℤ) → grounds s (add ps z) ≡ Accepted → addAnswer s ps z ≡ Accepted
 unfolding grounds
 add-passed s ps z e = e
+
+pub add-passes : (s : State) (ps : List Pair) (z : ℤ) → addAnswer s ps z ≡ Accepted → grounds s (add ps z) ≡ Accepted
+unfolding grounds
+add-passes s ps z e = e
 
 pub rescore-passed : (s : State) (k : ℕ) (z : ℤ) → grounds s (rescore k z) ≡ Accepted → rescoreAnswer s k z ≡ Accepted
 unfolding grounds

@@ -19,7 +19,7 @@ use Rattle.chain.specs.Acts.{add, addAnswer, grounds, numberGiven}
 use Rattle.chain.specs.View.{view, Does}
 use Rattle.chain.specs.Opening.{Outcome}
 use Rattle.chain.specs.declared.Session.{Session}
-use Rattle.chain.proofs.Judges.{count-room}
+use Rattle.chain.proofs.Judges.{add-passed, add-passes, count-room}
 use Rattle.demand.specs.History.{Event, stateOf}
 use Rattle.demand.specs.Reached.{Reached}
 use Rattle.demand.specs.Demands.{Takes, AddsRight}
@@ -33,16 +33,19 @@ module _ (s : State) (tree-q : Nested (leavesOf (s .q))) (tree-t : Nested (leave
   unfolding judged
   exactly = next-exactly tree-q tree-t (s .rows) ps z
 
+  -- A list of pairs with a score is added exactly if a session in this state takes it.
   taken : addAnswer s ps z ≡ Accepted → Takes s ps z
   unfolding judged
   taken e =
       let a = not-refused judged (countAnswer (s .changes)) e in
       record { addable = exactly .0 (a .0); room = count-room (s .changes) (a .1) }
 
-  -- A list of pairs with a score is added exactly if a session in this state takes it.
+  takes : Takes s ps z → addAnswer s ps z ≡ Accepted
+  unfolding judged countAnswer
+  takes w = rw (exactly .1 (w .addable), lt-leb 1000000 (s .changes) (w .room))
+
   adds-exactly : (grounds s (add ps z) ≡ Accepted) ↔ Takes s ps z
-  unfolding grounds judged countAnswer
-  adds-exactly = (taken, λ w. rw (exactly .1 (w .addable), lt-leb 1000000 (s .changes) (w .room)))
+  adds-exactly = (λ e. taken (add-passed s ps z e), λ w. add-passes s ps z (takes w))
 
 -- Of every session that a list of calls handed over, by the history: what an add answers, and the number that it gives.
 pub adds-by-history : {o : Outcome} {s next : Session} {h : List Event} → Reached o s h

@@ -8,12 +8,10 @@ use native.Mathlib.Omega.{arith}
 use lib.ListN.{length, take, length-append}
 use lib.IntN.{ℤ, pos, negsuc}
 use lib.Signed.{mag, leZ}
-use lib.Dec.{ltb}
-use borrow.Author.Tests.{leb-true, lt-leb, le-leb, ltb-true, ltb-false}
+use borrow.Author.Tests.{leb-true}
 use Rattle.answer.specs.declared.Answer.{Answer}
 use Rattle.answer.specs.declared.Answer.the-variants.{Accepted}
-use Rattle.answer.proofs.Given.{not-given}
-use Rattle.write.specs.Wrote.{writtenOf, outputOf, Wrote}
+use Rattle.write.specs.Wrote.{Wrote}
 use Rattle.write.specs.declared.Written.{Written}
 use Rattle.write.proofs.Wrote.{wrote-front}
 use Rattle.tree.specs.Run.{Run}
@@ -35,11 +33,12 @@ use Rattle.dealing.specs.Texts.{bothRead}
 use Rattle.dealing.specs.Seeds.{seedsAnswer}
 use Rattle.dealing.specs.Deal.{deckAnswer, dealAnswer, dealOf}
 use Rattle.chain.specs.State.{State}
-use Rattle.chain.specs.Acts.{writeDeck, grounds, deckOf}
+use Rattle.chain.specs.Acts.{deckOf}
 use Rattle.chain.specs.View.{view, Sound}
 use Rattle.chain.specs.Opening.{Outcome, startWith, deckOpening, Opens}
 use Rattle.chain.specs.Looking.{Writes}
 use Rattle.chain.specs.declared.Session.{Session}
+use Rattle.chain.proofs.Looks.{deck-put}
 use Rattle.demand.specs.History.{Event, stateOf}
 use Rattle.demand.specs.Reached.{Reached}
 use Rattle.demand.specs.Reached.Reached.{opened}
@@ -117,51 +116,36 @@ module _ (s : Session) (h : Sound s) where
   unfolding deckOpening dealOf dealAnswer deckAnswer
   deck-reopened q t e = rw (e, deck-read, present-judged tree-q tree-t (rowsOf (s .table)) (h .kept .each) 1)
 
--- What is written after any list of calls: the plain form of the rows that are present by the history, whole, or ground 22.
-writes-plain : (s : State) (before after : List ℕ) (w : Written) → Writes s before after w → Wrote (deckOf s) before after w
-unfolding grounds writtenOf outputOf
-writes-plain s before after w x = go (ltb (length before) (length (deckOf s))) refl
-  where
-    go : (b : Bool) → ltb (length before) (length (deckOf s)) ≡ b → Wrote (deckOf s) before after w
-    go true e =
-        let f = lt-leb (length (deckOf s)) (length before) (ltb-true (length before) (length (deckOf s)) e) in
-        record { answers = x .answers ∙ rw (e, f); leaves = x .output ∙ rw (e, f) }
-    go false e =
-        let f = le-leb (length (deckOf s)) (length before) (ltb-false (length before) (length (deckOf s)) e) in
-        record { answers = x .answers ∙ rw (e, f); leaves = x .output ∙ rw (e, f) }
-
-module _ {o : Outcome} {s : Session} {h : List Event} (reached : Reached o s h) {before after : List ℕ} {w : Written} (x : Writes (view s) before after w) where
+-- What is written after any list of calls: the plain form of the rows that are present by the history.
+module _ {o : Outcome} {s : Session} {h : List Event} (reached : Reached o s h) {before after : List ℕ} {w : Written} (x : Writes (view s) before after w) (ok : w .answer ≡ Accepted) where
   pub deck-by-history : Wrote (plainOf (presentRows (stateOf (o .state) h .rows))) before after w
   unfolding deckOf
-  deck-by-history = subst (λ (y : State). Wrote (plainOf (presentRows (y .rows))) before after w) (by-history reached) (writes-plain (view s) before after w x)
+  deck-by-history = subst (λ (y : State). Wrote (plainOf (presentRows (y .rows))) before after w) (by-history reached) (deck-put x ok .wrote)
 
-  -- The output has room for an accepted deck, and so holds it.
-  deck-written : w .answer ≡ Accepted → take (w .length) after ≡ plainOf (presentRows (view s .rows))
-  unfolding grounds deckOf
-  deck-written ok =
-      let passed : grounds (view s) (writeDeck (length before)) ≡ Accepted = sym (ap (λ (y : Written). y .answer) (x .answers)) ∙ ok in
-      let room = ltb-false (length before) (length (deckOf (view s))) (not-given _ _ _ _ passed .0) in
-      wrote-front (deckOf (view s)) before after w room (writes-plain (view s) before after w x)
+  -- It stands at the start of the output.
+  deck-written : take (w .length) after ≡ plainOf (presentRows (view s .rows))
+  unfolding deckOf
+  deck-written = let put = deck-put x ok in wrote-front (deckOf (view s)) before after w (put .room) (put .wrote)
 
   -- Opened on the same texts, it gives the rows that were present, numbered from 1 in order.
-  pub written-then-opened : {r p : Run} {rows : List Row} → OpenedOn o r p rows → (q t : List ℕ) → Spells r q → Spells p t → w .answer ≡ Accepted
+  pub written-then-opened : {r p : Run} {rows : List Row} → OpenedOn o r p rows → (q t : List ℕ) → Spells r q → Spells p t
       → {a : Answer} {again : Session} → Opens (deckOpening q t (take (w .length) after)) a again
       → (a ≡ Accepted) × (view again ≡ startWith (treeOf r) (treeOf p) (presentRows (tableBy r p rows h)))
-  written-then-opened {r} {p} {rows} on q t spells-q spells-t ok {a} {again} opens =
+  written-then-opened {r} {p} {rows} on q t spells-q spells-t {a} {again} opens =
       let state : view s ≡ stateOf (startWith (treeOf r) (treeOf p) rows) h = by-history reached ∙ ap (λ (y : State). stateOf y h) (opened-state on) in
       let stay = trees-stay (startWith (treeOf r) (treeOf p) rows) h in
       let tree-q : s .q ≡ treeOf r = ap (λ (y : State). y .q) state ∙ stay .0 in
       let tree-t : s .t ≡ treeOf p = ap (λ (y : State). y .t) state ∙ stay .1 in
       let both : bothRead q t ≡ record { answer = Accepted; q = s .q; t = s .t } = both-spelled spells-q spells-t ∙ ap₂ (λ (y z : Tree). record { answer = Accepted; q = y; t = z }) (sym tree-q) (sym tree-t) in
-      let outcome = ap (deckOpening q t) (deck-written ok) ∙ deck-reopened s (reached-sound reached) q t both in (
+      let outcome = ap (deckOpening q t) deck-written ∙ deck-reopened s (reached-sound reached) q t both in (
         opens .answers ∙ ap (λ (y : Outcome). y .answer) outcome,
         opens .leaves ∙ ap (λ (y : Outcome). y .state) outcome ∙ ap₂ (λ (y z : Tree). startWith y z (presentRows (view s .rows))) tree-q tree-t ∙ ap (λ (y : State). startWith (treeOf r) (treeOf p) (presentRows (y .rows))) state,
       )
 
 -- An accepted deck that is opened and written is put in plain form.
-pub opened-then-written : (q t d : List ℕ) {s : Session} → Opens (deckOpening q t d) Accepted s → {before after : List ℕ} {w : Written} → Writes (view s) before after w → Wrote (plainOf (rowsIn (deck.reading d))) before after w
+pub opened-then-written : (q t d : List ℕ) {s : Session} → Opens (deckOpening q t d) Accepted s → {before after : List ℕ} {w : Written} → Writes (view s) before after w → w .answer ≡ Accepted → Wrote (plainOf (rowsIn (deck.reading d))) before after w
 unfolding stateOf
-opened-then-written q t d {s} o {before} {after} {w} x =
+opened-then-written q t d {s} o {before} {after} {w} x ok =
     subst (λ (rows : List Row). Wrote (plainOf rows) before after w)
     (ap (λ (y : State). presentRows (y .rows)) (deck-state q t d (sym (o .answers))) ∙ reading-present d)
-    (deck-by-history (opened o) x)
+    (deck-by-history (opened o) x ok)

@@ -10,11 +10,11 @@ use Rattle.best.specs.declared.Best.{Best}
 use Rattle.write.specs.declared.Written.{Written}
 use Rattle.chain.specs.State.{State}
 use Rattle.chain.specs.Acts.{Act, add, withdraw, bringBack, rescore, bestChain, listAreas, writeDeck, showRow, grounds, after}
-use Rattle.chain.specs.View.{view, Sound, Does}
-use Rattle.chain.specs.Opening.{Outcome, Opens}
+use Rattle.chain.specs.View.{view, Sound}
+use Rattle.chain.specs.Opening.{Outcome}
 use Rattle.chain.specs.declared.Session.{Session}
 use Rattle.chain.specs.declared.Shown.{Shown}
-use Rattle.demand.specs.History.{Event, event, stateOf}
+use Rattle.demand.specs.History.{Event, stateOf}
 use Rattle.demand.specs.Reached.{Looked, Reached}
 use Rattle.demand.specs.Reached.Looked.{chained, listed, written, shown}
 use Rattle.demand.specs.Reached.Reached.{opened, called, looked}

@@ -1,9 +1,9 @@
 -- The starred examples of document 01, as rows of one list: what the definitions give, and what the document says.
 use mathlib.Core.Path.{_≡_}
 use mathlib.Core.Bool.{Bool, true, false, cond}
-use mathlib.Core.List.{List, [], _∷_, map}
+use mathlib.Core.List.{List, [], _∷_}
 use Prim.Native.Nat.{ℕ, zero, suc}
-use lib.IntN.{ℤ, pos, negsuc}
+use lib.IntN.{pos, negsuc}
 use Rattle.answer.specs.Answer.{Said, said}
 use Rattle.answer.specs.Answer.Said.{accepted, refused}
 use Rattle.answer.specs.declared.Place.the-variants.{Seed}

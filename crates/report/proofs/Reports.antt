@@ -22,9 +22,9 @@ use Rattle.best.specs.declared.Best.{Best}
 use Rattle.chain.specs.State.{State}
 use Rattle.chain.specs.View.{view}
 use Rattle.chain.specs.Opening.{deckOpening, Opens}
-use Rattle.chain.specs.Acts.{grounds}
 use Rattle.chain.specs.Looking.{bestIn, Chains}
 use Rattle.chain.specs.declared.Session.{Session}
+use Rattle.chain.proofs.Looks.{chosen, chain-passes}
 use Rattle.lines.specs.Lines.{resultLines, refusalLine, printed}
 use Rattle.lines.specs.declared.Lines.{Lines}
 use Rattle.lines.proofs.Lengths.{length-refusal, length-result}
@@ -59,17 +59,13 @@ lines-short input = go (outcomeOf input .answer)
 -- On a scratch that is long enough the best chain is worked out, and zeros are left.
 module _ {s : State} {scratch left : List ℕ} {r : Best} (room : scratchNeeded ≤ length scratch) (c : Chains s scratch left r) where
   pub chain-lines : resultLines (r .total) (r .chain) ≡ chainLines s
-  unfolding grounds
-  chain-lines =
-      let mine : r ≡ bestIn s = c .answers ∙ rw (le-ltb (length scratch) scratchNeeded room) in
-      ap (λ (x : Best). resultLines (x .total) (x .chain)) mine
+  chain-lines = ap (λ (x : Best). resultLines (x .total) (x .chain)) (chosen c (chain-passes c room) .answers)
 
   pub chain-few : length (resultLines (r .total) (r .chain)) ≤ 256
   chain-few = rw chain-lines (chain-short s)
 
   pub chain-zeros : left ≡ replicate (length scratch) 0
-  unfolding grounds
-  chain-zeros = c .scratch ∙ rw (le-ltb (length scratch) scratchNeeded room)
+  chain-zeros = chosen c (chain-passes c room) .zeros
 
 -- Lines written from their array.
 pub wrote-lines : {line : List ℕ} {lines : Lines} {out after : List ℕ} {w : Written} → lines ≡ printed line → Wrote (take (lines .length) (lines .bytes)) out after w → Wrote line out after w
