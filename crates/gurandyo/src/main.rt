@@ -1,20 +1,48 @@
 // The program: reads the two structures and the deck, and prints the best chain of their seeds.
 use report::report;
+ghost use mathlib.Core.Path.{_≡_};
+ghost use lib.ListN.{length};
+ghost use Rattle.io.specs.Counts.{Counts};
+ghost use Rattle.report.specs.Input.{mostRead};
+ghost use Rattle.report.specs.Report.{linesOf};
+ghost use Rattle.gurandyo.specs.Memory.{Lent, Ran, RoomFor, Starts};
 
-// Prints the lines of an input.
-fn print_report(input: &[u8], scratch: &mut [u64], out: &mut [u8]) {
-    let reported = report(input, scratch, out);
-    io::write_all(1, &out[..reported.length]);
+// Reads standard input. No contract of `io` says what is read, so how much is asked for here: 8,192 bytes at most.
+fn read_input(input: &mut [u8]) -> usize
+    requires { ⌜ length (now input) ≡ mostRead ⌝ }
+    ensures { λ r. ⌜ Counts r (now (input .exit)) ⌝ }
+{
+    io::read_full(0, input)
 }
 
-fn run(input: &mut [u8]) {
-    let n = io::read_full(0, input);
-    let mut scratch = [0u64; 4096];
-    let mut out = [0u8; 256];
-    print_report(&input[..n], &mut scratch, &mut out);
+// Writes the lines of an input to the start of the output, and answers how many bytes they have.
+fn put_report(input: &[u8], scratch: &mut [u64], out: &mut [u8]) -> usize
+    requires { ⌜ RoomFor (now input) (now scratch) (now out) ⌝ }
+    ensures { λ r. ⌜ Starts (now (out .exit)) r (linesOf (now (input .entry))) ⌝ }
+{
+    report(input, scratch, out).length
+}
+
+// Prints bytes. No contract of `io` says what is written, so it is asked for here: they are the lines of the input.
+fn print_lines(lines: &[u8], input: &[u8])
+    requires { ⌜ now lines ≡ linesOf (now input) ⌝ }
+{
+    io::write_all(1, lines);
+}
+
+// Prints the lines of what is read, on the lent memory.
+fn run(input: &mut [u8], scratch: &mut [u64], out: &mut [u8])
+    requires { ⌜ Lent (now input) (now scratch) (now out) ⌝ }
+    ensures { λ _. ⌜ Ran (now (input .exit)) (now (out .exit)) ⌝ }
+{
+    let n = read_input(input);
+    let length = put_report(&input[..n], scratch, out);
+    print_lines(&out[..length], &input[..n]);
 }
 
 fn main() {
     let mut input = [0u8; 8192];
-    run(&mut input);
+    let mut scratch = [0u64; 4096];
+    let mut out = [0u8; 256];
+    run(&mut input, &mut scratch, &mut out);
 }

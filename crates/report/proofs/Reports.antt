@@ -5,7 +5,6 @@ use mathlib.Core.List.{List}
 use Prim.Native.Nat.{ℕ, _≤_, _<_}
 use native.Mathlib.Omega.{arith}
 use lib.ListN.{length, take, replicate}
-use lib.Seq.{length-take-le}
 use lib.Dec.{ltb}
 use borrow.Author.Tests.{lt-ltb, le-ltb}
 use Rattle.answer.specs.Answer.{said}
@@ -15,7 +14,7 @@ use Rattle.answer.specs.declared.Answer.{Answer}
 use Rattle.answer.specs.declared.Answer.the-variants.{Accepted, Refused}
 use Rattle.write.specs.Wrote.{writtenOf, outputOf, Wrote}
 use Rattle.write.specs.declared.Written.{Written}
-use Rattle.write.proofs.Wrote.{written-all, wrote-within}
+use Rattle.write.proofs.Wrote.{written-all, wrote-front, wrote-within}
 use Rattle.seed.proofs.Tabs.{length-tab}
 use Rattle.best.specs.Best.{scratchNeeded}
 use Rattle.best.specs.declared.Best.{Best}
@@ -136,5 +135,9 @@ module _ (input scratch left out after : List ℕ) (r : Written) (w : Reports in
       go true e f = omega (arith, ap (λ (x : Written). x .length) e)
       go false e f = wrote-within (linesOf input) out after r (record { answers = e; leaves = f })
 
-  pub reported-taken : r .length ≡ length (take (r .length) after)
-  reported-taken = sym (length-take-le (r .length) after reported-within)
+  -- With scratch enough, and room for the lines, they are what was written.
+  pub reported-lines : scratchNeeded ≤ length scratch → length (linesOf input) ≤ length out → take (r .length) after ≡ linesOf input
+  unfolding reportedOf outputLeft
+  reported-lines long fits =
+      let no = le-ltb (length scratch) scratchNeeded long in
+      wrote-front (linesOf input) out after r fits (record { answers = rw no at (w .answers); leaves = rw no at (w .output-left) })

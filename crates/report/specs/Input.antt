@@ -9,8 +9,11 @@ use Rattle.report.specs.declared.input.Part.{Part}
 use Rattle.report.specs.declared.input.Parts.{Parts}
 
 -- The bytes that are read: 8,192 at most, the rest ignored.
+abbrev pub mostRead : ℕ
+mostRead = 8192
+
 unfoldable pub readBytes : List ℕ → List ℕ
-readBytes input = take 8192 input
+readBytes input = take mostRead input
 
 -- What stands before the first line feed: all, if there is none.
 unfoldable pub ahead : List ℕ → List ℕ

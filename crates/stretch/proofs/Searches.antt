@@ -2,7 +2,7 @@
 use mathlib.Core.Path.{_≡_, refl, sym, ap, ap₂, subst, _∙_}
 use Prim.Native.Nat.{ℕ, _+_, _-_, _≤_, _<_}
 use native.Mathlib.Omega.{arith}
-use mathlib.Core.List.{List, _++_}
+use mathlib.Core.List.{List, [], _++_}
 use lib.ListN.{length, take, drop, length-append}
 use lib.Seq.{take-append-seam, drop-append-seam}
 use Rattle.answer.specs.declared.Answer.{Answer}
@@ -173,3 +173,16 @@ part-of s a b l is = subst (PartOf s a b) (sym is) (go (reading s) refl)
     go (refused g k) e =
         subst (PartOf s a b) (sym (ap (λ (z : Reading). located z a b) e))
         record { order = omega arith; inside = omega arith; is = sym (ap (λ (z : Reading). part z a b) e) }
+
+-- Where it is refused nothing is handed back, and no byte stands before it.
+pub part-none : (s : List ℕ) (a b : ℕ) → (locatedIn s a b .answer ≡ Accepted → ⊥) → (partOf s a b ≡ []) × (locatedIn s a b .from ≡ 0)
+unfolding partOf
+part-none s a b denied = go (reading s) denied
+  where
+    in-tree : (x : Found) → (locatedBy x .answer ≡ Accepted → ⊥) → (spelled x ≡ []) × (locatedBy x .from ≡ 0)
+    in-tree (at k y) h = absurd (h refl)
+    in-tree nowhere h = (refl, refl)
+
+    go : (x : Reading) → (located x a b .answer ≡ Accepted → ⊥) → (part x a b ≡ []) × (located x a b .from ≡ 0)
+    go (accepted r) h = in-tree (stretchIn r a b) h
+    go (refused g k) h = (refl, refl)

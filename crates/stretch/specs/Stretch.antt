@@ -6,6 +6,7 @@ use Prim.Native.Nat.{ℕ, zero, suc, _+_, _-_, _≤_}
 use mathlib.Core.List.{List, []}
 use lib.ListN.{length}
 use lib.Dec.{eqb, ltb, leb}
+use denote.Ref.{RefT, now}
 use Rattle.answer.specs.declared.Ground.the-variants.{OutsideTree}
 use Rattle.answer.specs.declared.Place.the-variants.{Nothing}
 use Rattle.answer.specs.declared.Answer.{Answer}
@@ -102,3 +103,10 @@ part (refused g k) a b = []
 
 unfoldable pub partOf : List ℕ → ℕ → ℕ → List ℕ
 partOf s a b = part (reading s) a b
+
+-- The part is one of the caller's own text: it spells the stretch, and lies in the memory of that text, behind the bytes that stand before the
+-- stretch. If refused it is the empty part at the text's start.
+pub record HandsBack (text : RefT (List ℕ)) (a b : ℕ) (r : RefT (List ℕ)) : Type 0 where
+  pub spells : now r ≡ partOf (now text) a b
+  pub own : r .ptr .0 ≡ text .ptr .0
+  pub lies : r .ptr .1 ≡ text .ptr .1 + locatedIn (now text) a b .from
