@@ -1,5 +1,6 @@
 // The calls of the library as a script names them, with what they answer in words.
 pub mod changes;
+pub mod example;
 pub mod observe;
 pub mod redeal;
 pub mod reports;

@@ -4,6 +4,7 @@ use super::redeal::redealt;
 use answer::Answer;
 use best::Best;
 use chain::Session;
+use chain::Shown;
 use seed::Pair;
 use test_words::Text;
 use test_words::answers::with_answer;
@@ -49,7 +50,7 @@ fn with_chain(t: Text, chain: [bool; 64]) -> Text {
     next
 }
 
-fn with_best(t: Text, best: Best) -> Text {
+pub fn with_best(t: Text, best: Best) -> Text {
     let answer = best.answer;
     match answer {
         Answer::Accepted => {
@@ -100,7 +101,7 @@ pub fn best(session: Session, s: &[u8], at: usize) -> Text
     best_on(session, &mut scratch[..n])
 }
 
-fn with_areas(t: Text, answer: Answer, count: usize, bytes: &[u8]) -> Text {
+pub fn with_areas(t: Text, answer: Answer, count: usize, bytes: &[u8]) -> Text {
     match answer {
         Answer::Accepted => with_numbers(with_bytes(with_number(t, count), b" areas"), bytes),
         _ => with_answer(t, answer),
@@ -130,7 +131,7 @@ pub fn areas(session: Session, s: &[u8], at: usize) -> Text
     areas_on(session, number(s, at), &mut out[..room])
 }
 
-fn with_deck(t: Text, answer: Answer, bytes: &[u8]) -> Text {
+pub fn with_deck(t: Text, answer: Answer, bytes: &[u8]) -> Text {
     match answer {
         Answer::Accepted => with_hex(with_bytes(t, b"deck "), bytes),
         _ => with_answer(t, answer),
@@ -183,15 +184,12 @@ fn with_presence(t: Text, present: bool) -> Text {
     with_bytes(t, b" withdrawn")
 }
 
-// row NUMBER: the score, the last pair, how many pairs, and the presence.
-pub fn row(session: Session, s: &[u8], at: usize) -> Text
-    requires { ⌜ Sound session ⌝ }
-{
-    let shown = session.row(number(s, at));
+// What a row says: the score, the last pair, how many pairs, and the presence.
+pub fn with_shown(t: Text, shown: Shown) -> Text {
     let answer = shown.answer;
     let row = shown.row;
     let last = row.last;
-    let said = with_answer(blank(), answer);
+    let said = with_answer(t, answer);
     match answer {
         Answer::Accepted => with_presence(
             with_spaced(with_pair(with_score(said, row.score), last), row.pairs),
@@ -199,6 +197,13 @@ pub fn row(session: Session, s: &[u8], at: usize) -> Text
         ),
         _ => said,
     }
+}
+
+// row NUMBER
+pub fn row(session: Session, s: &[u8], at: usize) -> Text
+    requires { ⌜ Sound session ⌝ }
+{
+    with_shown(blank(), session.row(number(s, at)))
 }
 
 // redeal: the deck is written, opened on the two texts that stand at a place, and written again.

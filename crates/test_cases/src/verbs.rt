@@ -9,6 +9,7 @@ use test_calls::changes::move_to;
 use test_calls::changes::open;
 use test_calls::changes::rescore;
 use test_calls::changes::rescore_lent;
+use test_calls::example;
 use test_calls::reports::report;
 use test_calls::views;
 use test_words::Text;
@@ -49,6 +50,9 @@ fn looking(session: Session, s: &[u8], at: usize, texts: usize) -> Text
     }
     if check::same(word(s, at), b"random") {
         return random(s, args);
+    }
+    if check::same(word(s, at), b"example") {
+        return example::run();
     }
     with_bytes(blank(), b"no such call")
 }
