@@ -1,4 +1,4 @@
--- Passing the nodes between two listed ones: which of them are in the span, and which are unpaired border nodes. Assumes nothing.
+-- Passing the nodes between two listed ones: which of them are in the span, and which are unpaired border nodes.
 use mathlib.Core.Path.{_≡_, refl, sym, _∙_}
 use mathlib.Core.Bool.{Bool, true, false, not, _&&_, _||_, true≢false, false≢true}
 use mathlib.Core.Logic.{_⊎_, inl, inr}

@@ -1,4 +1,4 @@
--- Document 01's starred lists of pairs, and lists at the other grounds, computed from the definitions. Assumes nothing.
+-- Document 01's starred lists of pairs, and lists at the other grounds, computed from the definitions.
 use mathlib.Core.Path.{_≡_, refl}
 use mathlib.Core.List.{List, [], _∷_, map}
 use Prim.Native.Nat.{ℕ}

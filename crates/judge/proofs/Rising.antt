@@ -1,4 +1,4 @@
--- Rising lists by their places, and where a number cuts them. Assumes nothing.
+-- Rising lists by their places, and where a number cuts them.
 use mathlib.Core.Path.{_≡_, refl, sym, ap}
 use mathlib.Core.Bool.{true}
 use mathlib.Core.Logic.{inl, inr}

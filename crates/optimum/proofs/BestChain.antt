@@ -1,4 +1,4 @@
--- The best key is that of the best chain, in document 01's words, and a best chain is the only one. Assumes nothing.
+-- The best key is that of the best chain, in document 01's words, and a best chain is the only one.
 use mathlib.Core.Path.{_≡_, refl, sym, ap, subst, _∙_, fun-ext}
 use mathlib.Core.Bool.{Bool, false, _&&_}
 use mathlib.Core.Logic.{_⊎_, inl, inr}

@@ -1,5 +1,4 @@
 -- Every key that the table holds, or adds on the way, is a chain's, so that its total is at most 64,000,000 and its mask below 2 ^ 64.
--- Assumes nothing.
 use mathlib.Core.Path.{_≡_, sym, ap, ap₂, _∙_}
 use mathlib.Core.Bool.{Bool, true, _&&_}
 use Prim.Native.Nat.{ℕ, zero, suc, _+_, _*_, _^_, _≤_, _<_}

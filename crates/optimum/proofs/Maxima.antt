@@ -1,4 +1,4 @@
--- The best key over the numbers that pass a test. Assumes nothing.
+-- The best key over the numbers that pass a test.
 use mathlib.Core.Path.{_≡_, refl}
 use mathlib.Core.Bool.{Bool, not}
 use Prim.Native.Nat.{ℕ, zero, suc, _<_}

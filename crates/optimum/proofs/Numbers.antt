@@ -1,4 +1,4 @@
--- A set of positions and the set of their numbers have the same key. Assumes nothing.
+-- A set of positions and the set of their numbers have the same key.
 use mathlib.Core.Path.{_≡_, refl, sym, ap, subst, _∙_}
 use mathlib.Core.Bool.{Bool, true, false, not, cond, _||_}
 use Prim.Native.Nat.{ℕ, zero, suc, _+_, _^_, _≤_, _<_}

@@ -1,4 +1,4 @@
--- The table gives the best key: whatever fills a row by the recurrence does. Assumes nothing.
+-- The table gives the best key: whatever fills a row by the recurrence does.
 use mathlib.Core.Path.{_≡_, sym, ap, _∙_}
 use mathlib.Core.Bool.{Bool, true, _&&_}
 use Prim.Native.Nat.{ℕ, zero, suc, _≤_, _<_}

@@ -1,5 +1,4 @@
 -- How the best key comes apart, by the laws of left and under: with an item y it is that of y with the best under it, and the best left of it.
--- Assumes nothing.
 use mathlib.Core.Path.{_≡_}
 use mathlib.Core.Bool.{Bool, true, not, _&&_, _||_, and-or-distrib-right}
 use Prim.Native.Nat.{ℕ, zero, suc, _≤_, _<_}

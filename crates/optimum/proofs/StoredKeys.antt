@@ -1,4 +1,4 @@
--- What comparing and clipping stored keys gives, by the tests that a program makes. Assumes nothing.
+-- What comparing and clipping stored keys gives, by the tests that a program makes.
 use mathlib.Core.Path.{_≡_, refl, sym, ap, _∙_}
 use Prim.Native.Nat.{ℕ, suc, _+_, _-_, _≤_, _<_}
 use native.Mathlib.Omega.{arith}

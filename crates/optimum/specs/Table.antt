@@ -1,5 +1,5 @@
 -- The table by which the best key is worked out, for the contracts of the functions that fill it. Items are the positions below a number, and
--- a table is a key for each position. Assumes nothing.
+-- a table is a key for each position.
 use mathlib.Core.Path.{_≡_}
 use mathlib.Core.Bool.{Bool, cond, _&&_, _||_}
 use Prim.Native.Nat.{ℕ, zero, suc, _^_, _<_, _≤_}

@@ -1,4 +1,4 @@
--- What is asked of a list of pairs, computed: each test is true exactly if what its name says holds. Assumes nothing.
+-- What is asked of a list of pairs, computed: each test is true exactly if what its name says holds.
 use mathlib.Core.Bool.{Bool, true, false, not, _&&_, _||_, Bool·beq}
 use mathlib.Core.List.{List, [], _∷_}
 use Prim.Native.Nat.{ℕ, zero, suc, _-_}

@@ -1,4 +1,4 @@
--- The scan for a stretch: on a text with a part that spells the nodes a to b, it ends behind that part with the part's width. Assumes nothing.
+-- The scan for a stretch: on a text with a part that spells the nodes a to b, it ends behind that part with the part's width.
 use mathlib.Core.Path.{_≡_, refl, sym, ap, ap₂, subst, _∙_}
 use mathlib.Core.Bool.{Bool, true, false, cond, true≢false}
 use mathlib.Core.Logic.{⊎-elim}

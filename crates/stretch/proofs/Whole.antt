@@ -1,5 +1,5 @@
 -- By the leftmost leaves alone: the nodes a to b are a stretch exactly if no node of them starts before them and no node after them starts
--- within them. Assumes nothing.
+-- within them.
 use mathlib.Core.Path.{_≡_, refl, sym, ap, subst, _∙_}
 use mathlib.Core.Logic.{_↔_, ⊎-elim}
 use Prim.Native.Nat.{ℕ, zero, suc, _+_, _-_, _≤_, _<_}

@@ -1,4 +1,4 @@
--- The scan that finds a stretch in a text, byte by byte. Assumes nothing.
+-- The scan that finds a stretch in a text, byte by byte.
 use mathlib.Core.Path.{_≡_}
 use mathlib.Core.Bool.{Bool, true, false, cond}
 use Prim.Native.Nat.{ℕ, _+_}

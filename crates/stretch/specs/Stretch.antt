@@ -1,5 +1,4 @@
 -- Stretches (document 01, "Open areas"): runs of nodes that are whole subtrees of neighbouring siblings, and the bytes that spell one.
--- Assumes nothing.
 use mathlib.Core.Path.{_≡_}
 use mathlib.Core.Bool.{Bool, true, false}
 use Prim.Native.Nat.{ℕ, zero, suc, _+_, _-_, _≤_}

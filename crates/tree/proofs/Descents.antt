@@ -1,4 +1,4 @@
--- The run inside a bracket pair, read down to the first closing byte and up again. Assumes nothing.
+-- The run inside a bracket pair, read down to the first closing byte and up again.
 use mathlib.Core.Path.{_≡_, refl, sym, ap, ap₂, subst, _∙_}
 use mathlib.Core.Bool.{true, false}
 use mathlib.Core.Logic.{_⊎_, inl, inr}

@@ -1,4 +1,4 @@
--- Document 01's two structures and texts at the grounds' edges, computed from the definitions. Assumes nothing.
+-- Document 01's two structures and texts at the grounds' edges, computed from the definitions.
 use mathlib.Core.Path.{_≡_, refl}
 use mathlib.Core.List.{List, [], _∷_, _++_, map}
 use Prim.Native.Nat.{ℕ}

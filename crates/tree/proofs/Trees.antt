@@ -1,4 +1,4 @@
--- What a caller knows of a tree that a reading handed over. Assumes nothing.
+-- What a caller knows of a tree that a reading handed over.
 use mathlib.Core.Path.{_≡_, refl, sym, ap, subst, _∙_}
 use Prim.Native.Nat.{ℕ, _+_, _≤_}
 use native.Mathlib.Omega.{arith}

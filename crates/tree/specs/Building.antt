@@ -1,4 +1,4 @@
--- What is built of a tree while a text is read. Assumes nothing.
+-- What is built of a tree while a text is read.
 use mathlib.Core.Path.{_≡_}
 use mathlib.Core.Bool.{Bool, true, false}
 use mathlib.Core.Logic.{_⊎_}

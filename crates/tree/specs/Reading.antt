@@ -1,4 +1,4 @@
--- What reading a text must answer (document 01, "Structures as trees", grounds 1 to 4). Assumes nothing.
+-- What reading a text must answer (document 01, "Structures as trees", grounds 1 to 4).
 use mathlib.Core.Path.{_≡_}
 use mathlib.Core.Bool.{Bool, true, false, cond, _&&_}
 use Prim.Native.Nat.{ℕ, suc, _+_, _-_, _≤_}

@@ -1,4 +1,4 @@
--- `gurandyo::print_report` meets its contract. Assumes nothing.
+-- `gurandyo::print_report` meets its contract.
 use Rattle.report.proofs.Reports.{reported-within, reported-taken}
 use borrow.Author.Needs.{needs}
 use Rattle.gurandyo.proofs.print_report.Statement.{statement}

@@ -1,6 +1,6 @@
 -- `lent::add` meets its contract: a walk of its MIR, by hand. The slice is handed to `listed`, at its own lifetime, and what comes back to the
 -- covered `add_listed`. The slice is Copy: what it owns is had twice, and one copy is kept for the exit. What the callees return stays a
--- variable, with what is known of it. All that the proof knows of the callees is that they meet their contracts. Assumes nothing.
+-- variable, with what is known of it. All that the proof knows of the callees is that they meet their contracts.
 use mathlib.Core.Path.{_≡_, refl, sym, subst}
 use mathlib.Core.List.{[], _∷_, List}
 use lib.IntN.{ℤ}

@@ -1,4 +1,4 @@
--- `stretch::part` meets its contract: the bytes located spell the stretch. Assumes nothing.
+-- `stretch::part` meets its contract: the bytes located spell the stretch.
 use Rattle.stretch.proofs.Searches.{part-of}
 use borrow.Author.Needs.{needs}
 use Rattle.stretch.proofs.part.Statement.{statement}

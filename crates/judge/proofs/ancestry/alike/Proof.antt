@@ -1,4 +1,4 @@
--- `judge::ancestry::alike` meets its contract: the pairs passed were alike, so the answer is that of the rest. Assumes nothing.
+-- `judge::ancestry::alike` meets its contract: the pairs passed were alike, so the answer is that of the rest.
 use mathlib.Core.Path.{_≡_, sym, _∙_}
 use Prim.Native.Nat.{_-_}
 use native.Mathlib.Omega.{arith}

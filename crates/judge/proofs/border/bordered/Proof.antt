@@ -1,4 +1,4 @@
--- `judge::border::bordered` meets its contract: the nodes before the listed one are passed. Assumes nothing.
+-- `judge::border::bordered` meets its contract: the nodes before the listed one are passed.
 use mathlib.Core.Path.{_≡_, sym, _∙_}
 use Prim.Native.Nat.{_≤_, _+_, _-_}
 use native.Mathlib.Omega.{arith}

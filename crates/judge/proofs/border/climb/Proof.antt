@@ -1,4 +1,4 @@
--- `judge::border::climb` meets its contract: the node before x is the last top. Assumes nothing.
+-- `judge::border::climb` meets its contract: the node before x is the last top.
 use mathlib.Core.Path.{_≡_, refl}
 use mathlib.Core.Logic.{inl, inr}
 use Prim.Native.Nat.{_<_, _+_, _-_}

@@ -1,4 +1,4 @@
--- `judge::border::joined` meets its contract: the children passed are the tops from `left` on. Assumes nothing.
+-- `judge::border::joined` meets its contract: the children passed are the tops from `left` on.
 use mathlib.Core.Path.{_≡_, refl}
 use Prim.Native.Nat.{_<_, _-_}
 use native.Mathlib.Omega.{arith}

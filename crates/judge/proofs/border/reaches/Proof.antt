@@ -1,4 +1,4 @@
--- `judge::border::reaches` meets its contract: what is found is so of the nodes passed. Assumes nothing.
+-- `judge::border::reaches` meets its contract: what is found is so of the nodes passed.
 use mathlib.Core.Path.{_≡_}
 use Prim.Native.Nat.{_≤_, _-_}
 use native.Mathlib.Omega.{arith}

@@ -1,4 +1,4 @@
--- `lent::listing::add_listed` meets its contract. Assumes nothing.
+-- `lent::listing::add_listed` meets its contract.
 use mathlib.Core.Path.{sym}
 use lib.Seq.{length-take-le}
 use mir.Facts.{toZ-ofZ}

@@ -1,7 +1,7 @@
 -- `lent::listing::listed` meets its contract: a walk of its MIR, by hand, with a loop. The slice is looked into once, before the loop, and shut
 -- once, after it. A turn takes one pair out of the row, copies it, puts it back, and calls `with_pair` with its two numbers.
 -- The loop's variant holds what changes: the index i and the nodes so far, with what is known of them: what `withPairs` makes of them and of
--- the pairs from i on is what it makes of all. All that the proof knows of the callees is that they meet their contracts. Assumes nothing.
+-- the pairs from i on is what it makes of all. All that the proof knows of the callees is that they meet their contracts.
 use mathlib.Core.Path.{_≡_, refl, sym, ap, subst, _∙_}
 use mathlib.Core.Bool.{Bool, true, false}
 use mathlib.Core.WellFounded.{WellFounded, InvImage·wf}

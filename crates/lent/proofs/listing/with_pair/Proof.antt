@@ -1,4 +1,4 @@
--- `lent::listing::with_pair` meets its contract. Assumes nothing.
+-- `lent::listing::with_pair` meets its contract.
 use native.Mathlib.Omega.{arith}
 use borrow.Author.Needs.{needs}
 use borrow.Author.Tests.{lt-ltb, le-ltb}

@@ -1,4 +1,4 @@
--- `tree::character::is_known` meets its contract. Assumes nothing.
+-- `tree::character::is_known` meets its contract.
 use mathlib.Core.Path.{sym, ap, _∙_}
 use borrow.Author.Needs.{needs}
 use Rattle.tree.specs.Reading.{known}

@@ -1,4 +1,4 @@
--- `tree::run::closes` meets its contract. Assumes nothing.
+-- `tree::run::closes` meets its contract.
 use mathlib.Core.Path.{sym, ap, _∙_}
 use borrow.Author.Needs.{needs}
 use Rattle.tree.specs.Reading.{meaningOf}

@@ -1,4 +1,4 @@
--- What `tree::run::read_inside` leaves to prove: it has gone down, and each turn goes up by a byte. Assumes nothing.
+-- What `tree::run::read_inside` leaves to prove: it has gone down, and each turn goes up by a byte.
 use mathlib.Core.Path.{sym, _∙_}
 use mathlib.Core.List.{List}
 use Prim.Native.Nat.{ℕ}
