@@ -77,7 +77,7 @@ fn gaps_of(l: &[u8], nodes: &[u8]) -> [usize; 256]
 
 // Whether nodes with these gaps fit.
 fn meets(x: usize, y: usize) -> bool
-    ensures { λ r. ⌜ r ≡ gaps.meets x y ⌝ }
+    ensures { λ r. ⌜ r ≡ gaps.sameGap x y ⌝ }
 {
     if x != y {
         return false;

@@ -62,5 +62,5 @@ module _ (q t : Tree) (table : Table) where
     pub table-posed : Posed s (table .scores)
     table-posed = posed (tree-nested q (h .is-q)) (tree-nested t (h .is-t)) (rowsOf table) few seeds s o (table .scores) most
 
-    pub table-key : optimum.bestOf (itemsOf s (table .scores)) (λ x. true) (s .count) ≡ keyOf (leavesOf q) (leavesOf t) (rowsOf table)
+    pub table-key : optimum.bestAmong (itemsOf s (table .scores)) (λ x. true) (s .count) ≡ keyOf (leavesOf q) (leavesOf t) (rowsOf table)
     table-key = key-is (tree-nested q (h .is-q)) (tree-nested t (h .is-t)) (rowsOf table) few seeds s o (table .scores) score-row

@@ -21,7 +21,7 @@ use Rattle.seed.proofs.Laws as seed
 use Rattle.table.specs.Rows.{Row, rowIn}
 use Rattle.optimum.specs.Chain.{Seeds}
 use Rattle.optimum.specs.Key.{inMask, maskOf}
-use Rattle.optimum.specs.Table.{Items, Laws, Numbered, chainable, bestOf}
+use Rattle.optimum.specs.Table.{Items, Laws, Numbered, itemsChainable, bestAmong}
 use Rattle.optimum.proofs.Booleans.{T-eq, and-i, or-l, or-r, or-e}
 use Rattle.optimum.proofs.BestChain.{Listed, best-agrees}
 use Rattle.standing.specs.Standing.{rankIn, numberAt, seedAt, Stood}
@@ -118,14 +118,14 @@ module _ {Q T′ : List ℕ} (tree-q : Nested Q) (tree-t : Nested T′) (rows : 
       abbrev S : Seeds
       S = seedsOf Q T′ rows
 
-      listed : Listed S (numberAt (s .numbers)) (chainable items) (items .worth) (λ x. true) (s .count)
+      listed : Listed S (numberAt (s .numbers)) (itemsChainable items) (items .worth) (λ x. true) (s .count)
       listed =
           record {
             numbered = places (length rows) (omega arith) (λ i. rowIn rows i .score) same;
             present = λ k b t. rw (o .present k b) tt;
             listed = λ i b t. let p = o .listed i b (T-eq t) in record { at = p .at; below = p .below; inside = tt; numbered = p .holds };
             symmetric = λ i j. chain-sym (rowIn rows i .pairs) (rowIn rows j .pairs);
-            chainable = λ j k a b.
+            itemsChainable = λ j k a b.
                 or-e (marked (s .lefts) j k) (marked (s .unders) j k)
                 (λ t. laws .left j k (omega arith) b (left-says j k b t .1))
                 (λ t. laws .under j k (omega arith) b (under-says j k b t .1));
@@ -141,6 +141,6 @@ module _ {Q T′ : List ℕ} (tree-q : Nested Q) (tree-t : Nested T′) (rows : 
               elim (lt-or-le (lastPair (at j) .q) (lastPair (at k) .q)) [ inl l ↦ l | inr l ↦ absurd (laws .differ j k (omega arith) b c (omega (arith, rises j k a b))) ]
 
       -- The best key of the table on the scratch is the definition's.
-      pub key-is : bestOf items (λ x. true) (s .count) ≡ keyOf Q T′ rows
+      pub key-is : bestAmong items (λ x. true) (s .count) ≡ keyOf Q T′ rows
       unfolding keyOf
       key-is = best-agrees S listed (numbered tree-q tree-t rows seeds)

@@ -27,8 +27,8 @@ unfoldable pub keyOf : List ℕ → List ℕ → List Row → Key
 keyOf Q T rows = optimum.best (λ i j. chainable Q T (rowIn rows i .pairs) (rowIn rows j .pairs)) (seedKey (λ i. rowIn rows i .score)) (λ i. rowIn rows i .present) (length rows)
 
 -- What is answered of a key: its total, and for each seed number whether the chain has it.
-abbrev pub accepted : Key → Best
-accepted k = record { answer = Accepted; total = natAbs (k .total); chain = tab 64 (inMask (k .mask)) }
+abbrev pub bestOfKey : Key → Best
+bestOfKey k = record { answer = Accepted; total = natAbs (k .total); chain = tab 64 (inMask (k .mask)) }
 
 -- Ground 21: the scratch has fewer numbers than it must have.
 abbrev pub scratchNeeded : ℕ
@@ -39,7 +39,7 @@ tooShort = record { answer = Refused ScratchShort Nothing; total = 0; chain = re
 
 -- What is answered on a scratch of so many numbers.
 unfoldable pub bestOf : List ℕ → List ℕ → List Row → ℕ → Best
-bestOf Q T rows room = cond (ltb room scratchNeeded) tooShort (accepted (keyOf Q T rows))
+bestOf Q T rows room = cond (ltb room scratchNeeded) tooShort (bestOfKey (keyOf Q T rows))
 
 -- A refused call leaves the scratch as it was, and an accepted one leaves all of it zero.
 unfoldable pub scratchAfter : List ℕ → List ℕ

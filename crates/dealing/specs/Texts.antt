@@ -5,7 +5,7 @@ use Rattle.answer.specs.declared.Place.the-variants.{ByteInQ, ByteInT, Seed, No
 use Rattle.answer.specs.declared.Answer.{Answer}
 use Rattle.answer.specs.declared.Answer.the-variants.{Accepted, Refused}
 use Rattle.tree.specs.Reading.{Reading, reading, treeOf, single}
-use Rattle.tree.specs.Reading.Reading.{accepted, refused}
+use Rattle.tree.specs.Reading.Reading.{textAccepted, textRefused}
 use Rattle.dealing.specs.declared.texts.TwoTrees.{TwoTrees}
 
 -- The answer of a reading, whose text is T.
@@ -22,9 +22,9 @@ neither a = record { answer = a; q = treeOf single; t = treeOf single }
 
 -- Q is judged before T.
 abbrev pub bothOf : Reading → Reading → TwoTrees
-bothOf (refused g k) y = neither (Refused g (ByteInQ k))
-bothOf (accepted r) (refused g k) = neither (Refused g (ByteInT k))
-bothOf (accepted r) (accepted p) = record { answer = Accepted; q = treeOf r; t = treeOf p }
+bothOf (textRefused g k) y = neither (Refused g (ByteInQ k))
+bothOf (textAccepted r) (textRefused g k) = neither (Refused g (ByteInT k))
+bothOf (textAccepted r) (textAccepted p) = record { answer = Accepted; q = treeOf r; t = treeOf p }
 
 unfoldable pub bothRead : List ℕ → List ℕ → TwoTrees
 bothRead q t = bothOf (reading q) (reading t)

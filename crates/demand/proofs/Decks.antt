@@ -19,7 +19,7 @@ use Rattle.tree.specs.Reading.{leavesOf}
 use Rattle.tree.proofs.Trees.{tree-nested}
 use Rattle.seed.specs.declared.Pair.{Pair}
 use Rattle.judge.proofs.Grounds.{accepts-seeds}
-use Rattle.table.specs.Rows.{Row, noRow, pairCount, presentRows, inRange, AllHold}
+use Rattle.table.specs.Rows.{Row, noRow, pairsInAll, presentRows, inRange, AllHold}
 use Rattle.table.specs.Table.{rowsOf}
 use Rattle.table.proofs.Tables.{rows-length, rows-count}
 use Rattle.adding.specs.Adding.{nextAnswer, Addable}
@@ -77,12 +77,12 @@ present-few (r ∷ rs) = go (present-few rs) (r .present)
     go rest true = omega (arith, rest)
     go rest false = omega (arith, rest)
 
-present-pairs : (rows : List Row) → length (flatten (chainsOf (presentRows rows))) ≤ pairCount rows
-unfolding presentRows pairCount flatten
+present-pairs : (rows : List Row) → length (flatten (chainsOf (presentRows rows))) ≤ pairsInAll rows
+unfolding presentRows pairsInAll flatten
 present-pairs [] = omega arith
 present-pairs (r ∷ rs) = go (present-pairs rs) (r .present)
   where
-    go : length (flatten (chainsOf (presentRows rs))) ≤ pairCount rs → (b : Bool) → length (flatten (chainsOf (cond b (r ∷ presentRows rs) (presentRows rs)))) ≤ length (r .pairs) + pairCount rs
+    go : length (flatten (chainsOf (presentRows rs))) ≤ pairsInAll rs → (b : Bool) → length (flatten (chainsOf (cond b (r ∷ presentRows rs) (presentRows rs)))) ≤ length (r .pairs) + pairsInAll rs
     go rest true = omega (arith, rest, length-append (r .pairs) (flatten (chainsOf (presentRows rs))))
     go rest false = omega (arith, rest)
 
@@ -111,7 +111,7 @@ module _ (s : Session) (h : Sound s) where
           let a = not-refused (nextAnswer (leavesOf (s .q)) (leavesOf (s .t)) (rowsOf (s .table)) ps z) (countAnswer (s .changes)) e in
           record { addable = exactly .0 (a .0); room = count-room (s .changes) (a .1) }
 
-  pub deck-read : deck.reading (plainOf (presentRows (rowsOf (s .table)))) ≡ deck.Reading.accepted (presentRows (rowsOf (s .table)))
+  pub deck-read : deck.deckReading (plainOf (presentRows (rowsOf (s .table)))) ≡ deck.DeckReading.accepted (presentRows (rowsOf (s .table)))
   deck-read =
       let rows : List Row = rowsOf (s .table) in
       read-plain (presentRows rows)

@@ -11,7 +11,7 @@ use Rattle.tree.specs.Nested.{leaf}
 use Rattle.tree.specs.Reading as tree
 use Rattle.tree.specs.Reading.{leavesOf}
 use Rattle.seed.specs.Tab.{tab}
-use Rattle.seed.specs.Tests.{every, some, everyBelow, above, inside, nodeIn, nodesIn, risesFrom, rises, alikeAt, alikeTo, alike, rootOf, rooted, spans, children, paired, bordered}
+use Rattle.seed.specs.Tests.{every, some, everyBelow, above, inSubtree, nodeIn, nodesIn, risesFrom, rises, alikeAt, alikeTo, alike, rootOf, rooted, spans, children, paired, bordered}
 use Rattle.judge.specs.Judge.{judgeOf}
 use Rattle.seed.specs.AreaList.{side, level, fits, left, under, chainable, firstBelow, lastBelow, column, boxAt, begins, boxRow, boxes, areas, bytesOf}
 use Rattle.seed.specs.declared.Pair.{Pair}
@@ -19,7 +19,7 @@ use Rattle.optimum.specs.Key.{inMask, empty, _⊕_, noBetter, better}
 use Rattle.optimum.specs.Best as optimum
 use Rattle.best.specs.Best.{keyOf}
 use Rattle.best.specs.declared.Best.{Best}
-use Rattle.table.specs.Rows.{Row, givenOut, rowOf, withRow, pairCount, inRange}
+use Rattle.table.specs.Rows.{Row, givenOut, rowOf, withRow, pairsInAll, inRange}
 use Rattle.adding.specs.Adding.{limitAnswer, nextAnswer}
 use Rattle.chain.specs.State.{State, countAnswer}
 use Rattle.chain.specs.Acts.{Act, add, rescore, withdraw, bestChain, grounds, step, areasOf}
@@ -80,23 +80,23 @@ opened-is = refl
 
 -- The five seeds, one after another.
 first-added : with (holding ([]) 0) (one 2 1) (pos 3) ≡ holding (in-row (one 2 1) (pos 3) true ∷ []) 1
-unfolding with grounds nextAnswer limitAnswer pairCount inRange countAnswer judgeOf every some everyBelow above inside nodeIn nodesIn risesFrom rises alikeAt alikeTo alike rootOf rooted spans children paired bordered leaf
+unfolding with grounds nextAnswer limitAnswer pairsInAll inRange countAnswer judgeOf every some everyBelow above inSubtree nodeIn nodesIn risesFrom rises alikeAt alikeTo alike rootOf rooted spans children paired bordered leaf
 first-added = refl
 
 second-added : with (holding (in-row (one 2 1) (pos 3) true ∷ []) 1) (one 4 3) (pos 2) ≡ holding (in-row (one 2 1) (pos 3) true ∷ in-row (one 4 3) (pos 2) true ∷ []) 2
-unfolding with grounds nextAnswer limitAnswer pairCount inRange countAnswer judgeOf every some everyBelow above inside nodeIn nodesIn risesFrom rises alikeAt alikeTo alike rootOf rooted spans children paired bordered leaf
+unfolding with grounds nextAnswer limitAnswer pairsInAll inRange countAnswer judgeOf every some everyBelow above inSubtree nodeIn nodesIn risesFrom rises alikeAt alikeTo alike rootOf rooted spans children paired bordered leaf
 second-added = refl
 
 third-added : with (holding (in-row (one 2 1) (pos 3) true ∷ in-row (one 4 3) (pos 2) true ∷ []) 2) (one 1 0) (pos 1) ≡ holding (in-row (one 2 1) (pos 3) true ∷ in-row (one 4 3) (pos 2) true ∷ in-row (one 1 0) (pos 1) true ∷ []) 3
-unfolding with grounds nextAnswer limitAnswer pairCount inRange countAnswer judgeOf every some everyBelow above inside nodeIn nodesIn risesFrom rises alikeAt alikeTo alike rootOf rooted spans children paired bordered leaf
+unfolding with grounds nextAnswer limitAnswer pairsInAll inRange countAnswer judgeOf every some everyBelow above inSubtree nodeIn nodesIn risesFrom rises alikeAt alikeTo alike rootOf rooted spans children paired bordered leaf
 third-added = refl
 
 fourth-added : with (holding (in-row (one 2 1) (pos 3) true ∷ in-row (one 4 3) (pos 2) true ∷ in-row (one 1 0) (pos 1) true ∷ []) 3) (one 3 1) (pos 3) ≡ holding (in-row (one 2 1) (pos 3) true ∷ in-row (one 4 3) (pos 2) true ∷ in-row (one 1 0) (pos 1) true ∷ in-row (one 3 1) (pos 3) true ∷ []) 4
-unfolding with grounds nextAnswer limitAnswer pairCount inRange countAnswer judgeOf every some everyBelow above inside nodeIn nodesIn risesFrom rises alikeAt alikeTo alike rootOf rooted spans children paired bordered leaf
+unfolding with grounds nextAnswer limitAnswer pairsInAll inRange countAnswer judgeOf every some everyBelow above inSubtree nodeIn nodesIn risesFrom rises alikeAt alikeTo alike rootOf rooted spans children paired bordered leaf
 fourth-added = refl
 
 fifth-added : with (holding (in-row (one 2 1) (pos 3) true ∷ in-row (one 4 3) (pos 2) true ∷ in-row (one 1 0) (pos 1) true ∷ in-row (one 3 1) (pos 3) true ∷ []) 4) (one 0 2) (negsuc 0) ≡ holding (in-row (one 2 1) (pos 3) true ∷ in-row (one 4 3) (pos 2) true ∷ in-row (one 1 0) (pos 1) true ∷ in-row (one 3 1) (pos 3) true ∷ in-row (one 0 2) (negsuc 0) true ∷ []) 5
-unfolding with grounds nextAnswer limitAnswer pairCount inRange countAnswer judgeOf every some everyBelow above inside nodeIn nodesIn risesFrom rises alikeAt alikeTo alike rootOf rooted spans children paired bordered leaf
+unfolding with grounds nextAnswer limitAnswer pairsInAll inRange countAnswer judgeOf every some everyBelow above inSubtree nodeIn nodesIn risesFrom rises alikeAt alikeTo alike rootOf rooted spans children paired bordered leaf
 fifth-added = refl
 
 five : State
@@ -155,23 +155,23 @@ leaves-B : lists (leavesOf (opened .t)) ≡ lists (0 ∷ 0 ∷ 2 ∷ 2 ∷ 0 ∷
 leaves-B = ap (λ (s : State). lists (leavesOf (s .t))) opened-is
 
 border : says (adding (two 2 0 5 4)) ≡ says (refused 19 (Seed 1))
-unfolding grounds nextAnswer limitAnswer pairCount inRange countAnswer judgeOf every some everyBelow above inside nodeIn nodesIn risesFrom rises alikeAt alikeTo alike rootOf rooted spans children paired bordered leaf
+unfolding grounds nextAnswer limitAnswer pairsInAll inRange countAnswer judgeOf every some everyBelow above inSubtree nodeIn nodesIn risesFrom rises alikeAt alikeTo alike rootOf rooted spans children paired bordered leaf
 border = ap (λ (s : State). says (said (grounds s (add (two 2 0 5 4) (pos 0))))) opened-is
 
 ancestry : says (adding (two 0 0 1 1)) ≡ says (refused 17 (Seed 1))
-unfolding grounds nextAnswer limitAnswer pairCount inRange countAnswer judgeOf every some everyBelow above inside nodeIn nodesIn risesFrom rises alikeAt alikeTo alike rootOf rooted spans children paired bordered leaf
+unfolding grounds nextAnswer limitAnswer pairsInAll inRange countAnswer judgeOf every some everyBelow above inSubtree nodeIn nodesIn risesFrom rises alikeAt alikeTo alike rootOf rooted spans children paired bordered leaf
 ancestry = ap (λ (s : State). says (said (grounds s (add (two 0 0 1 1) (pos 0))))) opened-is
 
 root : says (adding (two 0 0 4 2)) ≡ says (refused 18 (Seed 1))
-unfolding grounds nextAnswer limitAnswer pairCount inRange countAnswer judgeOf every some everyBelow above inside nodeIn nodesIn risesFrom rises alikeAt alikeTo alike rootOf rooted spans children paired bordered leaf
+unfolding grounds nextAnswer limitAnswer pairsInAll inRange countAnswer judgeOf every some everyBelow above inSubtree nodeIn nodesIn risesFrom rises alikeAt alikeTo alike rootOf rooted spans children paired bordered leaf
 root = ap (λ (s : State). says (said (grounds s (add (two 0 0 4 2) (pos 0))))) opened-is
 
 seed : says (adding (two 1 0 3 1)) ≡ says accepted
-unfolding grounds nextAnswer limitAnswer pairCount inRange countAnswer judgeOf every some everyBelow above inside nodeIn nodesIn risesFrom rises alikeAt alikeTo alike rootOf rooted spans children paired bordered leaf
+unfolding grounds nextAnswer limitAnswer pairsInAll inRange countAnswer judgeOf every some everyBelow above inSubtree nodeIn nodesIn risesFrom rises alikeAt alikeTo alike rootOf rooted spans children paired bordered leaf
 seed = ap (λ (s : State). says (said (grounds s (add (two 1 0 3 1) (pos 0))))) opened-is
 
 listed : lists (bytesOf (areasOf (with opened (two 3 1 5 4) (pos 0)) 1)) ≡ lists (0 ∷ 2 ∷ 0 ∷ 0 ∷ 4 ∷ 4 ∷ 2 ∷ 3 ∷ [])
-unfolding with grounds nextAnswer limitAnswer pairCount inRange countAnswer judgeOf every some everyBelow above inside nodeIn nodesIn risesFrom rises alikeAt alikeTo alike rootOf rooted spans children paired bordered leaf areasOf areas boxes boxRow begins boxAt column lastBelow firstBelow bytesOf fits level side rowOf
+unfolding with grounds nextAnswer limitAnswer pairsInAll inRange countAnswer judgeOf every some everyBelow above inSubtree nodeIn nodesIn risesFrom rises alikeAt alikeTo alike rootOf rooted spans children paired bordered leaf areasOf areas boxes boxRow begins boxAt column lastBelow firstBelow bytesOf fits level side rowOf
 listed = ap (λ (s : State). lists (bytesOf (areasOf (with s (two 3 1 5 4) (pos 0)) 1))) opened-is
 
 none : lists (chain opened) ≡ lists (0 ∷ [])
@@ -179,11 +179,11 @@ unfolding grounds keyOf optimum.best better noBetter _⊕_ empty inMask tab chai
 none = ap (λ (s : State). lists (chain s)) opened-is
 
 zero-score : lists (chain (with opened (one 2 1) (pos 0))) ≡ lists (0 ∷ [])
-unfolding with grounds nextAnswer limitAnswer pairCount inRange countAnswer judgeOf every some everyBelow above inside nodeIn nodesIn risesFrom rises alikeAt alikeTo alike rootOf rooted spans children paired bordered leaf keyOf optimum.best better noBetter _⊕_ empty inMask tab chainable left under fits level side
+unfolding with grounds nextAnswer limitAnswer pairsInAll inRange countAnswer judgeOf every some everyBelow above inSubtree nodeIn nodesIn risesFrom rises alikeAt alikeTo alike rootOf rooted spans children paired bordered leaf keyOf optimum.best better noBetter _⊕_ empty inMask tab chainable left under fits level side
 zero-score = ap (λ (s : State). lists (chain (with s (one 2 1) (pos 0)))) opened-is
 
 minus-one : lists (chain (with opened (one 2 1) (negsuc 0))) ≡ lists (0 ∷ [])
-unfolding with grounds nextAnswer limitAnswer pairCount inRange countAnswer judgeOf every some everyBelow above inside nodeIn nodesIn risesFrom rises alikeAt alikeTo alike rootOf rooted spans children paired bordered leaf keyOf optimum.best better noBetter _⊕_ empty inMask tab chainable left under fits level side
+unfolding with grounds nextAnswer limitAnswer pairsInAll inRange countAnswer judgeOf every some everyBelow above inSubtree nodeIn nodesIn risesFrom rises alikeAt alikeTo alike rootOf rooted spans children paired bordered leaf keyOf optimum.best better noBetter _⊕_ empty inMask tab chainable left under fits level side
 minus-one = ap (λ (s : State). lists (chain (with s (one 2 1) (negsuc 0)))) opened-is
 
 six : lists (chain five) ≡ lists (6 ∷ 1 ∷ 2 ∷ 3 ∷ [])

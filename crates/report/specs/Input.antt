@@ -45,9 +45,9 @@ pub record Parted (input : List ℕ) (r : Parts) : Type 0 where
   pub in-deck : Lies input (r .deck) (deckBytes input)
 
 -- The input from one position up to another.
-abbrev pub between : List ℕ → ℕ → ℕ → List ℕ
-between input start end = take (end - start) (drop start input)
+abbrev pub inputBetween : List ℕ → ℕ → ℕ → List ℕ
+inputBetween input start end = take (end - start) (drop start input)
 
 -- The part from a position up to the first line feed after it, or to the end.
 abbrev pub partFrom : List ℕ → ℕ → ℕ → Part
-partFrom input start end = record { start = start; end = start + length (ahead (between input start end)) }
+partFrom input start end = record { start = start; end = start + length (ahead (inputBetween input start end)) }

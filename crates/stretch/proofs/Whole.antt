@@ -12,7 +12,7 @@ use Rattle.tree.specs.Nested.{leaf}
 use Rattle.tree.specs.Node.{Item, itemNumber}
 use Rattle.tree.specs.Node.Item.{the-dot, the-pair, inside, past-dot, past-pair}
 use Rattle.stretch.specs.Stretch.{Siblings, Stretch}
-use Rattle.stretch.specs.Stretch.Siblings.{here, into, past-dot as after-dot, past-pair as after-pair}
+use Rattle.stretch.specs.Stretch.Siblings.{here, into, behind-dot as after-dot, behind-pair as after-pair}
 use Rattle.tree.proofs.Leaves.{lt-or-le, root-left}
 use Rattle.stretch.proofs.Stretches.{inside as within}
 use Rattle.tree.proofs.Nodes.{left, item-at, item-below, leaf-item}

@@ -6,7 +6,7 @@ use mathlib.Core.List.{List, [], _∷_}
 use lib.Dec.{leb, ltb}
 use Rattle.tree.specs.Run.{Run}
 use Rattle.tree.specs.Reading.{meaningOf, reading}
-use Rattle.tree.specs.Reading.Reading.{accepted}
+use Rattle.tree.specs.Reading.Reading.{textAccepted}
 use Rattle.stretch.specs.Stretch.{stretchIn, locatedBy}
 use Rattle.tree.specs.declared.character.Meaning.{Meaning}
 use Rattle.tree.specs.declared.character.Meaning.the-variants.{Unpaired, Opening, Closing, Refused}
@@ -20,18 +20,18 @@ endsOf Opening = 0
 endsOf Closing = 1
 endsOf Refused = 0
 
-abbrev pub bytesOf : Meaning → ℕ
-bytesOf Unpaired = 1
-bytesOf Opening = 0
-bytesOf Closing = 2
-bytesOf Refused = 0
+abbrev pub ownBytes : Meaning → ℕ
+ownBytes Unpaired = 1
+ownBytes Opening = 0
+ownBytes Closing = 2
+ownBytes Refused = 0
 
 -- One byte passed: a node that ends there counts, and so do its bytes if its number is a or more.
 abbrev pub counted : ℕ → ℕ → Scan → Scan
 counted a x c = record {
   at = c .at + 1;
   nodes = c .nodes + endsOf (meaningOf x);
-  width = c .width + cond (leb a (c .nodes)) (bytesOf (meaningOf x)) 0;
+  width = c .width + cond (leb a (c .nodes)) (ownBytes (meaningOf x)) 0;
 }
 
 abbrev pub pickScan : Bool → Scan → Scan → Scan
@@ -48,4 +48,4 @@ scanTo a b c (x ∷ s) = pickScan (ltb b (c .nodes)) c (scanTo a b (counted a x 
 
 -- What a search in an accepted text must answer.
 abbrev pub LocatedRight : List ℕ → ℕ → ℕ → Located → Type 0
-LocatedRight s a b l = (r : Run) → reading s ≡ accepted r → l ≡ locatedBy (stretchIn r a b)
+LocatedRight s a b l = (r : Run) → reading s ≡ textAccepted r → l ≡ locatedBy (stretchIn r a b)

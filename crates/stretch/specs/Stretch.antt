@@ -11,17 +11,17 @@ use Rattle.answer.specs.declared.Answer.{Answer}
 use Rattle.answer.specs.declared.Answer.the-variants.{Accepted, Refused}
 use Rattle.tree.specs.Run.{Run, spell, size, join}
 use Rattle.tree.specs.Run.Run.{end, dot, pair}
-use Rattle.tree.specs.Reading.{Reading, reading, answerOf}
-use Rattle.tree.specs.Reading.Reading.{accepted, refused}
+use Rattle.tree.specs.Reading.{Reading, reading, textAnswer}
+use Rattle.tree.specs.Reading.Reading.{textAccepted, textRefused}
 use Rattle.stretch.specs.declared.search.Located.{Located}
 
 -- The items of y are neighbours in the run r, or in the run inside a pair of it. Their first node is a, counted from r's first node, and
 -- k bytes of r's text stand before them.
 pub data Siblings (y : Run) : Run → ℕ → ℕ → Type 0 where
   here : {r : Run} (z : Run) → r ≡ join y z → Siblings y r 0 0
-  past-dot : {c : ℕ} {r : Run} {a k : ℕ} → Siblings y r a k → Siblings y (dot c r) (suc a) (suc k)
+  behind-dot : {c : ℕ} {r : Run} {a k : ℕ} → Siblings y r a k → Siblings y (dot c r) (suc a) (suc k)
   into : {o : ℕ} {i : Run} {c : ℕ} {r : Run} {a k : ℕ} → Siblings y i a k → Siblings y (pair o i c r) a (suc k)
-  past-pair : {o : ℕ} {i : Run} {c : ℕ} {r : Run} {a k : ℕ} → Siblings y r a k → Siblings y (pair o i c r) (size i + suc a) (suc (length (spell i) + suc k))
+  behind-pair : {o : ℕ} {i : Run} {c : ℕ} {r : Run} {a k : ℕ} → Siblings y r a k → Siblings y (pair o i c r) (size i + suc a) (suc (length (spell i) + suc k))
 
 -- The nodes a to b of the tree of r are a stretch: a is at most b, and they are the nodes of the items of y, with k bytes before them. The
 -- added root is no item, so that it is in no stretch.
@@ -80,8 +80,8 @@ locatedBy (at k y) = record { answer = Accepted; from = k; to = k + length (spel
 locatedBy nowhere = record { answer = Refused OutsideTree Nothing; from = 0; to = 0 }
 
 abbrev pub located : Reading → ℕ → ℕ → Located
-located (accepted r) a b = locatedBy (stretchIn r a b)
-located (refused g k) a b = record { answer = answerOf (refused g k); from = 0; to = 0 }
+located (textAccepted r) a b = locatedBy (stretchIn r a b)
+located (textRefused g k) a b = record { answer = textAnswer (textRefused g k); from = 0; to = 0 }
 
 abbrev pub locatedIn : List ℕ → ℕ → ℕ → Located
 locatedIn s a b = located (reading s) a b
@@ -96,8 +96,8 @@ spelled (at k y) = spell y
 spelled nowhere = []
 
 abbrev pub part : Reading → ℕ → ℕ → List ℕ
-part (accepted r) a b = spelled (stretchIn r a b)
-part (refused g k) a b = []
+part (textAccepted r) a b = spelled (stretchIn r a b)
+part (textRefused g k) a b = []
 
 unfoldable pub partOf : List ℕ → ℕ → ℕ → List ℕ
 partOf s a b = part (reading s) a b

@@ -75,8 +75,8 @@ firstRefused (c ∷ s) = orNext (meaningOf c) (firstRefused s)
 
 -- A text is accepted with its run, or refused on a ground at a byte.
 pub data Reading : Type 0 where
-  accepted : Run → Reading
-  refused : Ground → ℕ → Reading
+  textAccepted : Run → Reading
+  textRefused : Ground → ℕ → Reading
 
 abbrev pub pick : Bool → Reading → Reading → Reading
 pick true x y = x
@@ -95,12 +95,12 @@ groundAt Refused = NeverClosed
 
 -- The run that a text begins with is all of it, or stops at a closing byte that closes nothing or an opening one that is never closed.
 abbrev pub stopped : List ℕ → Run → Reading
-stopped s r = pick (eqb (length (spell r)) (length s)) (accepted r) (refused (groundAt (meaningOf (getD s (length (spell r)) 0))) (length (spell r)))
+stopped s r = pick (eqb (length (spell r)) (length s)) (textAccepted r) (textRefused (groundAt (meaningOf (getD s (length (spell r)) 0))) (length (spell r)))
 
 unfoldable pub reading : List ℕ → Reading
 reading s =
-    pick (badLength (length s)) (refused TextLength 0)
-    (pick (ltb (firstRefused s) (length s)) (refused UnknownByte (firstRefused s)) (stopped s (first (runs s))))
+    pick (badLength (length s)) (textRefused TextLength 0)
+    (pick (ltb (firstRefused s) (length s)) (textRefused UnknownByte (firstRefused s)) (stopped s (first (runs s))))
 
 -- The tree of a run: its nodes and the added root, and zeros up to 256 numbers.
 abbrev pub treeOf : Run → Tree
@@ -111,13 +111,13 @@ abbrev pub single : Run
 single = dot 46 end
 
 -- A call on one text names it Q.
-abbrev pub answerOf : Reading → Answer
-answerOf (accepted r) = answer.Accepted
-answerOf (refused g k) = answer.Refused g (ByteInQ k)
+abbrev pub textAnswer : Reading → Answer
+textAnswer (textAccepted r) = answer.Accepted
+textAnswer (textRefused g k) = answer.Refused g (ByteInQ k)
 
 abbrev pub readOf : Reading → TreeRead
-readOf (accepted r) = record { answer = answerOf (accepted r); tree = treeOf r }
-readOf (refused g k) = record { answer = answerOf (refused g k); tree = treeOf single }
+readOf (textAccepted r) = record { answer = textAnswer (textAccepted r); tree = treeOf r }
+readOf (textRefused g k) = record { answer = textAnswer (textRefused g k); tree = treeOf single }
 
 -- The leftmost leaves of a tree's nodes.
 abbrev pub leavesOf : Tree → List ℕ
