@@ -13,7 +13,7 @@ use borrow.Author.Tests.{le-leb, lt-leb, lt-ltb, le-ltb}
 use Rattle.tree.specs.Run.{Run, spell, size}
 use Rattle.tree.specs.Run.Run.{end, dot, pair}
 use Rattle.tree.specs.Reading.{meaningOf, Meant}
-use Rattle.stretch.specs.Scan.{endsOf, ownBytes, counted, pickScan, unmoved, scanTo}
+use Rattle.stretch.specs.Scan.{endsOf, ownBytes, counted, unmoved, scanTo}
 use Rattle.tree.specs.declared.character.Meaning.{Meaning}
 use Rattle.tree.specs.declared.character.Meaning.the-variants.{Unpaired, Opening, Closing, Refused}
 use Rattle.stretch.specs.declared.search.Scan.{Scan}
@@ -139,10 +139,10 @@ module _ (a : ℕ) where
     -- The scan passes bytes while node b has not ended, and stops once it has.
     scan-stop : (c : Scan) (s : List ℕ) → b < c .nodes → scanTo a b c s ≡ c
     scan-stop c [] h = refl
-    scan-stop c (x ∷ s) h = ap (λ (k : Bool). pickScan k c (scanTo a b (counted a x c) s)) (lt-ltb b (c .nodes) h)
+    scan-stop c (x ∷ s) h = ap (λ (k : Bool). cond k c (scanTo a b (counted a x c) s)) (lt-ltb b (c .nodes) h)
 
     scan-next : (c : Scan) (x : ℕ) (s : List ℕ) → c .nodes ≤ b → scanTo a b c (x ∷ s) ≡ scanTo a b (counted a x c) s
-    scan-next c x s h = ap (λ (k : Bool). pickScan k c (scanTo a b (counted a x c) s)) (le-ltb b (c .nodes) h)
+    scan-next c x s h = ap (λ (k : Bool). cond k c (scanTo a b (counted a x c) s)) (le-ltb b (c .nodes) h)
 
     scan-pass : (c : Scan) (p s : List ℕ) → c .nodes + ends p ≤ b → scanTo a b c (p ++ s) ≡ scanTo a b (scanned a c p) s
     scan-pass c [] s h = refl

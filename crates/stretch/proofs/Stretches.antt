@@ -1,6 +1,6 @@
 -- The search in the tree finds the stretch of the nodes a to b exactly if there is one.
 use mathlib.Core.Path.{_≡_, refl, sym, ap, subst, _∙_}
-use mathlib.Core.Bool.{Bool, true, false}
+use mathlib.Core.Bool.{Bool, true, false, cond}
 use mathlib.Core.Logic.{⊎-elim, _↔_}
 use Prim.Native.Nat.{ℕ, zero, suc, _+_, _-_, _≤_, _<_}
 use native.Mathlib.Omega.{arith}
@@ -10,18 +10,18 @@ use lib.Dec.{eqb, ltb, leb}
 use borrow.Author.Tests.{eq-eqb, ne-eqb, lt-ltb, le-ltb, le-leb, lt-leb}
 use Rattle.tree.specs.Run.{Run, spell, size, join}
 use Rattle.tree.specs.Run.Run.{end, dot, pair}
-use Rattle.stretch.specs.Stretch.{Siblings, Stretch, Found, pickFound, past, withDot, withPair, leading, nodesFrom, stretchIn}
+use Rattle.stretch.specs.Stretch.{Siblings, Stretch, Found, past, withDot, withPair, leading, nodesFrom, stretchIn}
 use Rattle.stretch.specs.Stretch.Siblings.{here, behind-dot, into, behind-pair}
 use Rattle.stretch.specs.Stretch.Found.{at, nowhere}
 use Rattle.answer.proofs.Denied.{clash}
 use Rattle.tree.proofs.Leaves.{lt-or-le}
 
 -- A search takes the one or the other way, by its test.
-yes : {t : Bool} (x y : Found) → t ≡ true → pickFound t x y ≡ x
-yes x y e = ap (λ (t : Bool). pickFound t x y) e
+yes : {t : Bool} (x y : Found) → t ≡ true → cond t x y ≡ x
+yes x y e = ap (λ (t : Bool). cond t x y) e
 
-no : {t : Bool} (x y : Found) → t ≡ false → pickFound t x y ≡ y
-no x y e = ap (λ (t : Bool). pickFound t x y) e
+no : {t : Bool} (x y : Found) → t ≡ false → cond t x y ≡ y
+no x y e = ap (λ (t : Bool). cond t x y) e
 
 -- What was found behind other bytes, or with one item more.
 past-at : (m : ℕ) (x : Found) (k : ℕ) (y : Run) → past m x ≡ at k y → (j : ℕ) × (x ≡ at j y) × (k ≡ m + j)
@@ -70,7 +70,7 @@ leads (dot c r) n k y e = ⊎-elim
     (eq-zero-or-pos n)
 leads (pair o i c r) n k y e =
     let X : Found = withPair o i c (leading r (n - suc (size i))) in
-    let Y : Found = pickFound (leb n (size i)) nowhere X in
+    let Y : Found = cond (leb n (size i)) nowhere X in
     ⊎-elim
     (λ z. leads-none (pair o i c r) n k y z (sym (yes (at 0 end) Y (eq-eqb n 0 z)) ∙ e))
     (λ p.
@@ -96,7 +96,7 @@ leading-joined (pair o i c y) z =
     let n : ℕ = size i + suc (size y) in
     let e : n - suc (size i) ≡ size y = omega arith in
     let X : Found = withPair o i c (leading (join y z) (n - suc (size i))) in
-    no (at 0 end) (pickFound (leb n (size i)) nowhere X) (ne-eqb n 0 (λ h. omega arith))
+    no (at 0 end) (cond (leb n (size i)) nowhere X) (ne-eqb n 0 (λ h. omega arith))
     ∙ no nowhere X (lt-leb n (size i) (omega arith))
     ∙ ap (λ (m : ℕ). withPair o i c (leading (join y z) m)) e
     ∙ ap (withPair o i c) (leading-joined y z)
@@ -107,10 +107,10 @@ module _ (o : ℕ) (i : Run) (c : ℕ) (r : Run) (a n : ℕ) where
   Inside = past 1 (nodesFrom i a n)
 
   abbrev Behind : Found
-  Behind = pickFound (ltb (size i) a) (past (length (spell i) + 2) (nodesFrom r (a - suc (size i)) n)) nowhere
+  Behind = cond (ltb (size i) a) (past (length (spell i) + 2) (nodesFrom r (a - suc (size i)) n)) nowhere
 
   abbrev Outside : Found
-  Outside = pickFound (eqb a 0) (leading (pair o i c r) n) Behind
+  Outside = cond (eqb a 0) (leading (pair o i c r) n) Behind
 
   from-inside : a + n ≤ size i → nodesFrom (pair o i c r) a n ≡ Inside
   from-inside h = yes Inside Outside (le-leb (a + n) (size i) h)

@@ -1,6 +1,6 @@
 -- The scan that finds a stretch in a text, byte by byte.
 use mathlib.Core.Path.{_≡_}
-use mathlib.Core.Bool.{Bool, true, false, cond}
+use mathlib.Core.Bool.{cond}
 use Prim.Native.Nat.{ℕ, _+_}
 use mathlib.Core.List.{List, [], _∷_}
 use lib.Dec.{leb, ltb}
@@ -34,17 +34,13 @@ counted a x c = record {
   width = c .width + cond (leb a (c .nodes)) (ownBytes (meaningOf x)) 0;
 }
 
-abbrev pub pickScan : Bool → Scan → Scan → Scan
-pickScan true c d = c
-pickScan false c d = d
-
 abbrev pub unmoved : Scan
 unmoved = record { at = 0; nodes = 0; width = 0 }
 
 -- The bytes passed up to the one that ends node b.
 abbrev pub scanTo : ℕ → ℕ → Scan → List ℕ → Scan
 scanTo a b c [] = c
-scanTo a b c (x ∷ s) = pickScan (ltb b (c .nodes)) c (scanTo a b (counted a x c) s)
+scanTo a b c (x ∷ s) = cond (ltb b (c .nodes)) c (scanTo a b (counted a x c) s)
 
 -- What a search in an accepted text must answer.
 abbrev pub LocatedRight : List ℕ → ℕ → ℕ → Located → Type 0

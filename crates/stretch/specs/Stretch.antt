@@ -1,6 +1,6 @@
 -- Stretches (document 01, "Open areas"): runs of nodes that are whole subtrees of neighbouring siblings, and the bytes that spell one.
 use mathlib.Core.Path.{_≡_}
-use mathlib.Core.Bool.{Bool, true, false}
+use mathlib.Core.Bool.{cond}
 use Prim.Native.Nat.{ℕ, zero, suc, _+_, _-_, _≤_}
 use mathlib.Core.List.{List, []}
 use lib.ListN.{length}
@@ -35,10 +35,6 @@ pub data Found : Type 0 where
   at : ℕ → Run → Found
   nowhere : Found
 
-abbrev pub pickFound : Bool → Found → Found → Found
-pickFound true x y = x
-pickFound false x y = y
-
 -- The same items, with k bytes more before them.
 abbrev pub past : ℕ → Found → Found
 past k (at j y) = at (k + j) y
@@ -55,11 +51,11 @@ withPair o i c nowhere = nowhere
 
 -- The items that a run begins with and that have n nodes.
 abbrev pub leading : Run → ℕ → Found
-leading end n = pickFound (eqb n 0) (at 0 end) nowhere
-leading (dot c r) n = pickFound (eqb n 0) (at 0 end) (withDot c (leading r (n - 1)))
+leading end n = cond (eqb n 0) (at 0 end) nowhere
+leading (dot c r) n = cond (eqb n 0) (at 0 end) (withDot c (leading r (n - 1)))
 leading (pair o i c r) n =
-    pickFound (eqb n 0) (at 0 end)
-    (pickFound (leb n (size i)) nowhere (withPair o i c (leading r (n - suc (size i)))))
+    cond (eqb n 0) (at 0 end)
+    (cond (leb n (size i)) nowhere (withPair o i c (leading r (n - suc (size i)))))
 
 -- The n nodes from a on: inside a pair, from the run's beginning, or behind its first item.
 abbrev pub nodesFrom : Run → ℕ → ℕ → Found
@@ -67,12 +63,12 @@ nodesFrom end a n = nowhere
 nodesFrom (dot c r) zero n = leading (dot c r) n
 nodesFrom (dot c r) (suc a) n = past 1 (nodesFrom r a n)
 nodesFrom (pair o i c r) a n =
-    pickFound (leb (a + n) (size i)) (past 1 (nodesFrom i a n))
-    (pickFound (eqb a 0) (leading (pair o i c r) n)
-    (pickFound (ltb (size i) a) (past (length (spell i) + 2) (nodesFrom r (a - suc (size i)) n)) nowhere))
+    cond (leb (a + n) (size i)) (past 1 (nodesFrom i a n))
+    (cond (eqb a 0) (leading (pair o i c r) n)
+    (cond (ltb (size i) a) (past (length (spell i) + 2) (nodesFrom r (a - suc (size i)) n)) nowhere))
 
 unfoldable pub stretchIn : Run → ℕ → ℕ → Found
-stretchIn r a b = pickFound (leb a b) (nodesFrom r a (b - a + 1)) nowhere
+stretchIn r a b = cond (leb a b) (nodesFrom r a (b - a + 1)) nowhere
 
 -- What is answered of nodes that are looked for, and the bytes that spell them: none where they are no stretch.
 abbrev pub locatedBy : Found → Located

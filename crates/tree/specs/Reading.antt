@@ -78,10 +78,6 @@ pub data Reading : Type 0 where
   textAccepted : Run → Reading
   textRefused : Ground → ℕ → Reading
 
-abbrev pub pick : Bool → Reading → Reading → Reading
-pick true x y = x
-pick false x y = y
-
 -- The length on which ground 1 turns a text down: 0 or above 255.
 unfoldable pub badLength : ℕ → Bool
 badLength n = cond (eqb n 0) true (ltb 255 n)
@@ -95,12 +91,12 @@ groundAt Refused = NeverClosed
 
 -- The run that a text begins with is all of it, or stops at a closing byte that closes nothing or an opening one that is never closed.
 abbrev pub stopped : List ℕ → Run → Reading
-stopped s r = pick (eqb (length (spell r)) (length s)) (textAccepted r) (textRefused (groundAt (meaningOf (getD s (length (spell r)) 0))) (length (spell r)))
+stopped s r = cond (eqb (length (spell r)) (length s)) (textAccepted r) (textRefused (groundAt (meaningOf (getD s (length (spell r)) 0))) (length (spell r)))
 
 unfoldable pub reading : List ℕ → Reading
 reading s =
-    pick (badLength (length s)) (textRefused TextLength 0)
-    (pick (ltb (firstRefused s) (length s)) (textRefused UnknownByte (firstRefused s)) (stopped s (first (runs s))))
+    cond (badLength (length s)) (textRefused TextLength 0)
+    (cond (ltb (firstRefused s) (length s)) (textRefused UnknownByte (firstRefused s)) (stopped s (first (runs s))))
 
 -- The tree of a run: its nodes and the added root, and zeros up to 256 numbers.
 abbrev pub treeOf : Run → Tree
