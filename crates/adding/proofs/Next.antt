@@ -31,7 +31,7 @@ use Rattle.table.specs.declared.Table.{Table}
 use Rattle.table.proofs.Tables.{rows-length, rows-count}
 use Rattle.table.proofs.Held.{all-more}
 use Rattle.adding.specs.Adding.{limitAnswer, nextAnswer, Grows, Addable}
-use Rattle.adding.specs.Appending.{withSeed, SeedRoom}
+use Rattle.adding.specs.inner.Appending.{withSeed, SeedRoom}
 use Rattle.adding.proofs.Appended.{laid-new, rows-new}
 
 -- The limits that an accepted seed keeps.

@@ -20,6 +20,13 @@ use Rattle.table.specs.Rows.{Row, newRow, pairsInAll, inRange}
 use Rattle.table.specs.Table.{rowsOf, Kept}
 use Rattle.table.specs.declared.Table.{Table}
 
+-- A list that is a seed of two trees and keeps the limits of a table with these rows.
+pub record Addable (Q T : List ℕ) (rows : List Row) (ps : List Pair) (z : ℤ) : Type 0 where
+  pub ranged : inRange z ≡ true
+  pub seed-room : length rows < 64
+  pub pair-room : pairsInAll rows + length ps ≤ 1024
+  pub seed : seed.Seed Q T ps
+
 -- Grounds 11 to 14 of a seed with so many pairs, for a table of so many seeds and pairs. The seed would get the number after the last.
 unfoldable pub limitAnswer : ℕ → ℕ → ℕ → ℤ → Answer
 limitAnswer seeds pairs count z =
@@ -38,10 +45,3 @@ pub record Grows (q t : Tree) (table : Table) (ps : List Pair) (z : ℤ) (answer
   pub accepted : answer ≡ Accepted → rowsOf next ≡ rowsOf table ++ newRow ps z ∷ []
   pub refused : (answer ≡ Accepted → ⊥) → next ≡ table
   pub kept : Kept q t next
-
--- A list that is a seed of two trees and keeps the limits of a table with these rows.
-pub record Addable (Q T : List ℕ) (rows : List Row) (ps : List Pair) (z : ℤ) : Type 0 where
-  pub ranged : inRange z ≡ true
-  pub seed-room : length rows < 64
-  pub pair-room : pairsInAll rows + length ps ≤ 1024
-  pub seed : seed.Seed Q T ps

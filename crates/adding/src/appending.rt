@@ -4,7 +4,7 @@ ghost use mathlib.Core.Path.{_≡_};
 ghost use Prim.Native.Nat.{_+_, _≤_};
 ghost use lib.ListN.{length};
 ghost use lib.Seq.{paste};
-ghost use Rattle.adding.specs.Appending.{withSeed, SeedRoom};
+ghost use Rattle.adding.specs.inner.Appending.{withSeed, SeedRoom};
 
 // Puts the bytes of a slice into an array from a place on.
 fn paste(array: &mut [u8; 1024], at: usize, s: &[u8])

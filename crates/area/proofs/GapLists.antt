@@ -12,7 +12,7 @@ use Rattle.seed.specs.Tab.{tab}
 use Rattle.seed.specs.Seed.{Seed, qs, ts}
 use Rattle.seed.specs.Area.{FitsAt}
 use Rattle.seed.specs.AreaList.{fits, areas}
-use Rattle.area.specs.Gaps.{gap, sameGap, like, meet, boxesBelow}
+use Rattle.area.specs.inner.Gaps.{gap, sameGap, like, meet, boxesBelow}
 use Rattle.seed.specs.declared.Pair.{Pair}
 use Rattle.seed.proofs.Tabs.{length-tab, getD-tab}
 use Rattle.answer.proofs.Tells.{Tells, tells-eq, tells-as, tells-and, tells-not}

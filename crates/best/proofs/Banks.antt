@@ -12,11 +12,11 @@ use lib.ListN.{length, getD, set, length-set}
 use lib.Seq.{getD-set-same, getD-set-other}
 use Rattle.tree.proofs.Leaves.{lt-or-le}
 use Rattle.optimum.specs.Key.{Key, empty, better, inMask}
-use Rattle.optimum.specs.Table.{maxBelow, stored}
+use Rattle.optimum.specs.inner.Table.{maxBelow, stored}
 use Rattle.optimum.proofs.Keys.{_≼_, ≼-refl, ≼-trans, ≼-antisym, better-l, better-r, better-ind}
 use Rattle.optimum.proofs.Maxima.{max-empty, max-upper, max-least}
 use Rattle.masks.specs.Masks.{minus}
-use Rattle.best.specs.Scratch.{keyAt, rowBank, marked, RowRises}
+use Rattle.best.specs.inner.Scratch.{keyAt, rowBank, marked, RowRises}
 use Rattle.masks.proofs.Bits.{in-either, alone-is, minus-from, minus-gone}
 use Rattle.masks.proofs.Bits.{nothing}
 

@@ -21,12 +21,12 @@ use Rattle.seed.proofs.Laws as seed
 use Rattle.table.specs.Rows.{Row, rowIn}
 use Rattle.optimum.specs.Chain.{Seeds}
 use Rattle.optimum.specs.Key.{inMask, maskOf}
-use Rattle.optimum.specs.Table.{Items, Laws, Numbered, itemsChainable, bestAmong}
+use Rattle.optimum.specs.inner.Table.{Items, Laws, Numbered, itemsChainable, bestAmong}
 use Rattle.optimum.proofs.Booleans.{T-eq, and-i, or-l, or-r, or-e}
 use Rattle.optimum.proofs.BestChain.{Listed, best-agrees}
 use Rattle.standing.specs.Standing.{rankIn, numberAt, seedAt, Stood}
 use Rattle.best.specs.Best.{keyOf, seedsOf}
-use Rattle.best.specs.Scratch.{marked, scoreBy, itemsOf, Posed}
+use Rattle.best.specs.inner.Scratch.{marked, scoreBy, itemsOf, Posed}
 use Rattle.standing.specs.declared.Standing.{Standing}
 use Rattle.masks.proofs.Bits.{mask-has, mask-says, told-yes}
 use Rattle.best.proofs.BestChain.{numbered}

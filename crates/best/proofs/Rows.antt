@@ -12,7 +12,7 @@ use lib.IntN.{ℤ}
 use lib.ListN.{length, getD, set}
 use Rattle.tree.proofs.Leaves.{lt-or-le}
 use Rattle.optimum.specs.Key.{Key, empty, _⊕_, better, inMask, seedKey}
-use Rattle.optimum.specs.Table.{Items, bestAmong, itemsChainable, withUnder, maxBelow, KeysUnder, KeyRow, stored}
+use Rattle.optimum.specs.inner.Table.{Items, bestAmong, itemsChainable, withUnder, maxBelow, KeysUnder, KeyRow, stored}
 use Rattle.optimum.proofs.Booleans.{T-neq, and-l, and-r}
 use Rattle.optimum.proofs.Keys.{better-l, better-right}
 use Rattle.optimum.proofs.Maxima.{max-cong}
@@ -22,7 +22,7 @@ use Rattle.optimum.proofs.Split.{Down, down-under}
 use Rattle.optimum.proofs.Recurrence.{row-next, row-rises, row-best, filled-next}
 use Rattle.optimum.proofs.Bounds.{entry-small, best-small, under-small}
 use Rattle.standing.specs.Standing.{numberAt}
-use Rattle.best.specs.Scratch.{keyAt, itemBank, rowBank, marked, scoreBy, itemsOf, RowRises, entryOf, EntryRoom, RowRoom, RowFilled, Posed, ItemsFilled}
+use Rattle.best.specs.inner.Scratch.{keyAt, itemBank, rowBank, marked, scoreBy, itemsOf, RowRises, entryOf, EntryRoom, RowRoom, RowFilled, Posed, ItemsFilled}
 use Rattle.standing.specs.declared.Standing.{Standing}
 use Rattle.masks.proofs.Bits.{common, all-ones}
 use Rattle.best.proofs.Banks.{put-long, put-beside, put-here, put-before, max-start, max-past, max-turn}

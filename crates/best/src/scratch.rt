@@ -16,8 +16,8 @@ ghost use mathlib.Core.Bool.{true};
 ghost use Prim.Native.Nat.{_≤_};
 ghost use lib.ListN.{length};
 ghost use Rattle.optimum.specs.Key.{inMask};
-ghost use Rattle.optimum.specs.Table.{bestAmong, maxBelow, stored};
-ghost use Rattle.best.specs.Scratch as spec;
+ghost use Rattle.optimum.specs.inner.Table.{bestAmong, maxBelow, stored};
+ghost use Rattle.best.specs.inner.Scratch as spec;
 
 // Where the bank begins that has each item's key with the best chain under it.
 const ITEMS: usize = 0;

@@ -18,7 +18,7 @@ use Rattle.answer.proofs.Tells.{Tells, tells-not-false, tells-le, tells-lt, tel
 use Rattle.seed.proofs.Sides.{tells-above}
 use Rattle.seed.proofs.PairLists.{count-first, last-pair-at, nodes-first, nodes-second, cut-first, cut-second}
 use Rattle.judge.proofs.JudgeSteps.{last-node-at}
-use Rattle.judge.specs.Steps.{Ups, Risen, BothUnderLast, UnderLast}
+use Rattle.judge.specs.inner.Steps.{Ups, Risen, BothUnderLast, UnderLast}
 use Rattle.judge.proofs.Rising.{ups-most, rises-ups}
 use Rattle.judge.proofs.Rows.{tells-one, every-at}
 

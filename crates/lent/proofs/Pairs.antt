@@ -29,7 +29,7 @@ use Rattle.chain.specs.State.{State, countAnswer}
 use Rattle.chain.specs.Acts.{add, grounds, step}
 use Rattle.chain.specs.View.{view, Does}
 use Rattle.chain.specs.declared.Session.{Session}
-use Rattle.lent.specs.Listing.{noNodes, withOneMore, withPairs, heldIn, NodesFit}
+use Rattle.lent.specs.inner.Listing.{noNodes, withOneMore, withPairs, heldIn, NodesFit}
 use Rattle.lent.specs.declared.listing.NodeLists.{NodeLists}
 
 -- One pair more is taken off what is left, until nothing is.

@@ -5,7 +5,7 @@ use seed::Pair;
 ghost use mathlib.Core.Path.{_≡_};
 ghost use Rattle.chain.specs.Acts.{add, numberGiven};
 ghost use Rattle.chain.specs.View.{view, Sound, Does};
-ghost use Rattle.lent.specs.Listing.{noNodes, withOneMore, withPairs, heldIn, NodesFit};
+ghost use Rattle.lent.specs.inner.Listing.{noNodes, withOneMore, withPairs, heldIn, NodesFit};
 
 // The q and the t of `count` pairs: of 1,025 at most, which is one more than a session ever takes.
 pub struct NodeLists {

@@ -1,1 +1,2 @@
+-- What a reader believes, in document 01's order.
 pub mod Masks

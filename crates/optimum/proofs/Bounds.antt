@@ -8,7 +8,7 @@ use lib.IntN.{ℤ, pos, _+ℤ_, +ℤ-assoc, +ℤ-comm}
 use lib.Dec.{T, leb→le}
 use lib.Signed.{_≤ℤ_}
 use Rattle.optimum.specs.Key.{Key, empty, _⊕_, better, maskOf}
-use Rattle.optimum.specs.Table.{Items, itemsChainable, bestAmong, Laws, Limited, withUnder, maxBelow, KeysUnder, KeyRow, stored, Small}
+use Rattle.optimum.specs.inner.Table.{Items, itemsChainable, bestAmong, Laws, Limited, withUnder, maxBelow, KeysUnder, KeyRow, stored, Small}
 use Rattle.optimum.proofs.Booleans.{Is, yes, no, is, and-l, or-r}
 use Rattle.optimum.proofs.Keys.{gap-le, le-gap, empty-⊕, better-ind}
 use Rattle.optimum.proofs.Chains.{value, value-in, value-out, Attained, skipped, kept, weakened, best-attained}

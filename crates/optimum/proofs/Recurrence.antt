@@ -5,7 +5,7 @@ use Prim.Native.Nat.{ℕ, zero, suc, _≤_, _<_}
 use native.Mathlib.Omega.{arith}
 use lib.Dec.{T}
 use Rattle.optimum.specs.Key.{Key, empty, _⊕_, better}
-use Rattle.optimum.specs.Table.{Items, itemsChainable, bestAmong, Laws, withUnder, maxBelow, KeysUnder, KeyRow}
+use Rattle.optimum.specs.inner.Table.{Items, itemsChainable, bestAmong, Laws, withUnder, maxBelow, KeysUnder, KeyRow}
 use Rattle.optimum.proofs.Booleans.{Is, yes, no, is, T-ext, and-i, and-l, and-r, up-to}
 use Rattle.optimum.proofs.Keys.{_≼_, ≼-trans, ≼-mono, ⊕-comm, ⊕-empty}
 use Rattle.optimum.proofs.Maxima.{max-in, max-out, max-cong, max-upper}

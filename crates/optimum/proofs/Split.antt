@@ -5,7 +5,7 @@ use Prim.Native.Nat.{ℕ, zero, suc, _≤_, _<_}
 use native.Mathlib.Omega.{arith}
 use lib.Dec.{T, T-not, not-T}
 use Rattle.optimum.specs.Key.{Key, empty, _⊕_, better}
-use Rattle.optimum.specs.Table.{Items, itemsChainable, bestAmong, Laws, withUnder}
+use Rattle.optimum.specs.inner.Table.{Items, itemsChainable, bestAmong, Laws, withUnder}
 use Rattle.optimum.proofs.Booleans.{Is, yes, no, is, T-ext, and-i, and-l, and-r, or-l, or-r, or-e}
 use Rattle.optimum.proofs.Keys.{⊕-comm, ⊕-assoc, ⊕-empty, ⊕-swap, ⊕-better, better-clipped}
 use Rattle.optimum.proofs.Chains.{best-in, best-out, best-cong, best-none, best-mono}

@@ -4,7 +4,7 @@ use Prim.Native.Nat.{ℕ, suc, _+_, _-_, _≤_, _<_}
 use native.Mathlib.Omega.{arith}
 use lib.IntN.{ℤ, pos, negsuc, _+ℤ_}
 use Rattle.optimum.specs.Key.{Key, empty, _⊕_, better}
-use Rattle.optimum.specs.Table.{stored}
+use Rattle.optimum.specs.inner.Table.{stored}
 use Rattle.optimum.proofs.Keys.{key-eq, _≼_, more, same, better-left, better-right, sub-ge}
 
 -- Stored keys are added number by number.

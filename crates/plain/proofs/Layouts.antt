@@ -12,7 +12,7 @@ use Rattle.seed.specs.Pairs.{pairOf}
 use Rattle.deck.specs.Deck.{number16, number32, signed, SeedRecord, PairRecord, seedRecord, pairRecord, seedCount, zeroByte, pairCount, seedRecords, pairRecords}
 use Rattle.plain.specs.Plain.{unsigned, bytes16, bytes32, seedBytes, pairBytes, deckOfRecords, All}
 use Rattle.deck.specs.Grounds.{Layout}
-use Rattle.plain.specs.Writing.{pairPart}
+use Rattle.plain.specs.inner.Writing.{pairPart}
 use Rattle.deck.proofs.Lists.{map-append, flatten-append, tab-elements}
 use Rattle.plain.proofs.Scores.{signed-unsigned}
 use Rattle.plain.proofs.Writing.{pair-part-length}

@@ -17,7 +17,7 @@ use Rattle.deck.proofs.Lists.{map-append, flatten-more}
 use Rattle.write.proofs.Sets.{sets-after}
 use Rattle.write.proofs.Wrote.{wrote-none, wrote-all}
 use Rattle.plain.specs.Plain.{bytes16, bytes32, seedBytes, plainChain, plainPairs, plainSeeds, deckOfRecords, plainOf, WritesPlain}
-use Rattle.plain.specs.Writing.{sizeOf, seedPart, pairPart}
+use Rattle.plain.specs.inner.Writing.{sizeOf, seedPart, pairPart}
 use Rattle.plain.specs.declared.size.Size.{Size}
 use Rattle.plain.proofs.Writing.{chain-length, pair-part-length}
 

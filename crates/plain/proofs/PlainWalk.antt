@@ -20,7 +20,7 @@ use Rattle.plain.specs.Plain.{plainChain, plainPairs, plainSeeds, All, R
 use Rattle.deck.specs.Grounds.{Fresh, Passes, Walked, Ended}
 use Rattle.deck.specs.Grounds.Passes.{at-start, onward}
 use Rattle.deck.specs.Grounds.Walked.{none-yet, one-more}
-use Rattle.plain.specs.Writing.{nextOf}
+use Rattle.plain.specs.inner.Writing.{nextOf}
 use Rattle.seed.proofs.Tabs.{length-tab, map-tab}
 use Rattle.deck.proofs.Lists.{tab-next, tab-elements, map-append, flatten-append, flatten-more}
 use Rattle.deck.proofs.Counting.{isIn-more}

@@ -10,7 +10,8 @@ use lib.Dec.{eqb}
 use lib.ListN.{length, getD, take, drop, length-take, length-drop, drop-of-length-le}
 use lib.Seq.{drop-cons, drop-drop, take-take, take-nil}
 use borrow.Author.Tests.{eq-eqb, ne-eqb}
-use Rattle.report.specs.Input.{readBytes, ahead, behind, inputBetween, partFrom, Lies, Parted}
+use Rattle.report.specs.Input.{readBytes, ahead, behind}
+use Rattle.report.specs.inner.Steps.{inputBetween, partFrom, Lies, Parted}
 use Rattle.report.specs.declared.input.Part.{Part}
 
 -- The bytes before the line feed are counted: i of them, and those from place i on.

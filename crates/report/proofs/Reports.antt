@@ -29,8 +29,9 @@ use Rattle.lines.specs.Lines.{resultLines, refusalLine, printed}
 use Rattle.lines.specs.declared.Lines.{Lines}
 use Rattle.lines.proofs.Lengths.{length-refusal, length-result}
 use Rattle.lines.proofs.Printed.{printed-bytes}
-use Rattle.report.specs.Input.{textQ, textT, inputBetween, Parted}
-use Rattle.report.specs.Report.{outcomeOf, chainLines, linesBy, linesOf, zeroedBy, scratchLeft, scratchBy, reportedOf, reportOf, outputLeft, Reports, ChainPut}
+use Rattle.report.specs.Input.{textQ, textT}
+use Rattle.report.specs.inner.Steps.{inputBetween, Parted, ChainPut}
+use Rattle.report.specs.Report.{outcomeOf, chainLines, linesBy, linesOf, zeroedBy, scratchLeft, scratchBy, reportedOf, reportOf, outputLeft, Reports}
 use Rattle.report.specs.declared.input.Parts.{Parts}
 
 -- The session is opened on the three parts.

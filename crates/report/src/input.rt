@@ -2,7 +2,8 @@
 ghost use mathlib.Core.Path.{_≡_};
 ghost use Prim.Native.Nat.{_+_, _≤_, min};
 ghost use lib.ListN.{length};
-ghost use Rattle.report.specs.Input.{ahead, inputBetween, partFrom, Parted};
+ghost use Rattle.report.specs.Input.{ahead};
+ghost use Rattle.report.specs.inner.Steps.{inputBetween, partFrom, Parted};
 
 pub struct Part {
     pub start: usize,

@@ -14,7 +14,7 @@ use Rattle.seed.specs.AreaList.{left, under}
 use Rattle.seed.specs.declared.Pair.{Pair}
 use Rattle.optimum.specs.Key.{maskOf, inMask}
 use Rattle.optimum.proofs.Masks.{mask-self}
-use Rattle.standing.specs.Stands.{widenedBy, masksWidened, standOf, Composed}
+use Rattle.standing.specs.inner.Stands.{widenedBy, masksWidened, standOf, Composed}
 use Rattle.standing.specs.declared.stands.Stand.{Stand}
 use Rattle.standing.specs.declared.stands.Masks.{Masks}
 use Rattle.masks.specs.Masks.{minus}

@@ -1,3 +1,4 @@
+-- What a reader believes, in document 01's order.
 pub mod Standing
-pub mod Order
-pub mod Stands
+-- What only the contracts of inner functions cite.
+pub mod inner

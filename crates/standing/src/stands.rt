@@ -13,7 +13,7 @@ ghost use Prim.Native.Nat.{_^_, _≤_, _<_};
 ghost use lib.ListN.{getD};
 ghost use Rattle.seed.specs.Pairs.{pairOf, pairsOf};
 ghost use Rattle.seed.specs.Seed.{lastPair};
-ghost use Rattle.standing.specs.Stands.{standOf, masksOf, widenedBy, masksWidened, alone, seedBy, Composed, Lawful, Related};
+ghost use Rattle.standing.specs.inner.Stands.{standOf, masksOf, widenedBy, masksWidened, alone, seedBy, Composed, Lawful, Related};
 
 // Whether a seed stands left of another, and whether under it.
 pub struct Stand {

@@ -9,7 +9,7 @@ use Rattle.tree.specs.Run.{Run, spell, size, join}
 use Rattle.tree.specs.Run.Run.{end, dot, pair}
 use Rattle.tree.specs.Reading.{meaningOf, Meant, Runs, runs}
 use Rattle.tree.specs.Reading.Runs.{last, more}
-use Rattle.stretch.specs.Scan.{endsOf}
+use Rattle.stretch.specs.inner.Scan.{endsOf}
 use Rattle.stretch.specs.Stretch.{Siblings}
 use Rattle.stretch.specs.Stretch.Siblings.{here, behind-dot, into, behind-pair}
 use Rattle.tree.specs.declared.character.Meaning.the-variants.{Closing}

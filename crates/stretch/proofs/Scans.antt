@@ -13,7 +13,7 @@ use borrow.Author.Tests.{le-leb, lt-leb, lt-ltb, le-ltb}
 use Rattle.tree.specs.Run.{Run, spell, size}
 use Rattle.tree.specs.Run.Run.{end, dot, pair}
 use Rattle.tree.specs.Reading.{meaningOf, Meant}
-use Rattle.stretch.specs.Scan.{endsOf, ownBytes, counted, unmoved, scanTo}
+use Rattle.stretch.specs.inner.Scan.{endsOf, ownBytes, counted, unmoved, scanTo}
 use Rattle.tree.specs.declared.character.Meaning.{Meaning}
 use Rattle.tree.specs.declared.character.Meaning.the-variants.{Unpaired, Opening, Closing, Refused}
 use Rattle.stretch.specs.declared.search.Scan.{Scan}

@@ -14,7 +14,7 @@ use Rattle.tree.specs.Reading.Reading.{textAccepted, textRefused}
 use Rattle.stretch.specs.Stretch.{Siblings, Stretch, Found, stretchIn, locatedBy, located, locatedIn, spelled, part, partOf}
 use Rattle.stretch.specs.Stretch.Siblings.{here, behind-dot, into, behind-pair}
 use Rattle.stretch.specs.Stretch.Found.{at, nowhere}
-use Rattle.stretch.specs.Scan.{unmoved, scanTo, LocatedRight}
+use Rattle.stretch.specs.inner.Scan.{unmoved, scanTo, LocatedRight}
 use Rattle.stretch.specs.declared.search.Scan.{Scan}
 use Rattle.stretch.specs.declared.search.Located.{Located}
 use Rattle.tree.specs.declared.TreeRead.{TreeRead}

@@ -8,7 +8,7 @@ use native.Mathlib.Omega.{arith}
 use mathlib.Core.List.{List}
 use lib.ListN.{length, getD, set, length-set}
 use Rattle.tree.specs.Reading.{meaningOf}
-use Rattle.tree.specs.Building.{Ready, RunRead, closing, withNode, withLeaf, nodesPast, leavesPast, Down, Descended}
+use Rattle.tree.specs.inner.Building.{Ready, RunRead, closing, withNode, withLeaf, nodesPast, leavesPast, Down, Descended}
 use Rattle.tree.specs.declared.character.Meaning.{Meaning}
 use Rattle.tree.specs.declared.character.Meaning.the-variants.{Unpaired, Opening, Closing, Refused}
 use Rattle.tree.specs.declared.run.ReadTo.{ReadTo}

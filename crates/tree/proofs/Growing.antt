@@ -13,7 +13,7 @@ use Rattle.tree.specs.Run.{Run, spell, size, leftsFrom}
 use Rattle.tree.specs.Run.Run.{end, dot, pair}
 use Rattle.tree.specs.Reading.{meaningOf, Runs, first, onto, runs}
 use Rattle.tree.specs.Reading.Runs.{last, more}
-use Rattle.tree.specs.Building.{runAt, itemOf, Ready, Built, OpensAt, RunRead, ItemRead, closing}
+use Rattle.tree.specs.inner.Building.{runAt, itemOf, Ready, Built, OpensAt, RunRead, ItemRead, closing}
 use Rattle.tree.specs.declared.character.Meaning.{Meaning}
 use Rattle.tree.specs.declared.character.Meaning.the-variants.{Unpaired, Opening, Closing, Refused}
 use Rattle.tree.specs.declared.run.ReadTo.{ReadTo}

@@ -14,7 +14,7 @@ use Rattle.answer.specs.declared.Ground.the-variants.{TextLength, UnknownByte, 
 use Rattle.answer.specs.declared.Answer.the-variants.{Accepted}
 use Rattle.tree.specs.Run.{Run, spell, size, leftsFrom, lefts}
 use Rattle.tree.specs.Reading.{meaningOf, first, runs, firstRefused, badLength, groundAt, stopped, reading, readOf}
-use Rattle.tree.specs.Building.{Ready, OpensAt, RunRead}
+use Rattle.tree.specs.inner.Building.{Ready, OpensAt, RunRead}
 use Rattle.tree.specs.Reading.Reading.{textAccepted, textRefused}
 use Rattle.tree.specs.declared.character.Meaning.{Meaning}
 use Rattle.tree.specs.declared.character.Meaning.the-variants.{Unpaired, Opening, Closing, Refused}

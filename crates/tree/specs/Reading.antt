@@ -1,6 +1,6 @@
 -- What reading a text must answer (document 01, "Structures as trees", grounds 1 to 4).
 use mathlib.Core.Path.{_≡_}
-use mathlib.Core.Bool.{Bool, true, false, cond, _&&_}
+use mathlib.Core.Bool.{Bool, true, cond}
 use Prim.Native.Nat.{ℕ, suc, _+_, _-_, _≤_}
 use mathlib.Core.List.{List, [], _∷_, _++_}
 use lib.ListN.{length, getD, take, replicate}
@@ -27,6 +27,40 @@ Meant end = Unit {0}
 Meant (dot c r) = (meaningOf c ≡ Unpaired) × Meant r
 Meant (pair o i c r) = (meaningOf o ≡ Opening) × Meant i × (meaningOf c ≡ Closing) × Meant r
 
+-- A text is accepted with its run, or refused on a ground at a byte.
+pub data Reading : Type 0 where
+  textAccepted : Run → Reading
+  textRefused : Ground → ℕ → Reading
+
+-- A call on one text names it Q.
+abbrev pub textAnswer : Reading → Answer
+textAnswer (textAccepted r) = answer.Accepted
+textAnswer (textRefused g k) = answer.Refused g (ByteInQ k)
+
+-- The tree of a run: its nodes and the added root, and zeros up to 256 numbers.
+abbrev pub treeOf : Run → Tree
+treeOf r = record { n = size r + 1; left = lefts r ++ replicate (255 - size r) 0 }
+
+-- The run that the text "." spells: its tree stands beside a refusal.
+abbrev pub single : Run
+single = dot 46 end
+
+abbrev pub readOf : Reading → TreeRead
+readOf (textAccepted r) = record { answer = textAnswer (textAccepted r); tree = treeOf r }
+readOf (textRefused g k) = record { answer = textAnswer (textRefused g k); tree = treeOf single }
+
+-- The leftmost leaves of a tree's nodes.
+abbrev pub leavesOf : Tree → List ℕ
+leavesOf t = take (t .n) (t .left)
+
+-- A tree that a reading hands over.
+pub record IsTree (t : Tree) : Type 0 where
+  pub run : Run
+  pub few : size run ≤ 255
+  pub is : t ≡ treeOf run
+
+-- Reading a text, computed.
+
 -- The runs that a text splits into at the closing bytes that close nothing in it. What follows the last run is the end of the text, an
 -- opening byte that is never closed, or a refused byte.
 pub data Runs : Type 0 where
@@ -51,17 +85,6 @@ abbrev pub runs : List ℕ → Runs
 runs [] = last end
 runs (c ∷ s) = onto (meaningOf c) c (runs s)
 
--- Whether a byte of some meaning is not refused, and whether no byte of a text is.
-abbrev pub known : Meaning → Bool
-known Unpaired = true
-known Opening = true
-known Closing = true
-known Refused = false
-
-abbrev pub allKnown : List ℕ → Bool
-allKnown [] = true
-allKnown (c ∷ s) = known (meaningOf c) && allKnown s
-
 -- Where the first refused byte stands, or the text's length.
 abbrev pub orNext : Meaning → ℕ → ℕ
 orNext Unpaired n = suc n
@@ -72,11 +95,6 @@ orNext Refused n = 0
 abbrev pub firstRefused : List ℕ → ℕ
 firstRefused [] = 0
 firstRefused (c ∷ s) = orNext (meaningOf c) (firstRefused s)
-
--- A text is accepted with its run, or refused on a ground at a byte.
-pub data Reading : Type 0 where
-  textAccepted : Run → Reading
-  textRefused : Ground → ℕ → Reading
 
 -- The length on which ground 1 turns a text down: 0 or above 255.
 unfoldable pub badLength : ℕ → Bool
@@ -97,30 +115,3 @@ unfoldable pub reading : List ℕ → Reading
 reading s =
     cond (badLength (length s)) (textRefused TextLength 0)
     (cond (ltb (firstRefused s) (length s)) (textRefused UnknownByte (firstRefused s)) (stopped s (first (runs s))))
-
--- The tree of a run: its nodes and the added root, and zeros up to 256 numbers.
-abbrev pub treeOf : Run → Tree
-treeOf r = record { n = size r + 1; left = lefts r ++ replicate (255 - size r) 0 }
-
--- The run that the text "." spells: its tree stands beside a refusal.
-abbrev pub single : Run
-single = dot 46 end
-
--- A call on one text names it Q.
-abbrev pub textAnswer : Reading → Answer
-textAnswer (textAccepted r) = answer.Accepted
-textAnswer (textRefused g k) = answer.Refused g (ByteInQ k)
-
-abbrev pub readOf : Reading → TreeRead
-readOf (textAccepted r) = record { answer = textAnswer (textAccepted r); tree = treeOf r }
-readOf (textRefused g k) = record { answer = textAnswer (textRefused g k); tree = treeOf single }
-
--- The leftmost leaves of a tree's nodes.
-abbrev pub leavesOf : Tree → List ℕ
-leavesOf t = take (t .n) (t .left)
-
--- A tree that a reading hands over.
-pub record IsTree (t : Tree) : Type 0 where
-  pub run : Run
-  pub few : size run ≤ 255
-  pub is : t ≡ treeOf run

@@ -4,7 +4,7 @@ use super::character::meaning_of;
 ghost use mathlib.Core.Path.{_≡_};
 ghost use lib.ListN.{getD};
 ghost use Rattle.tree.specs.Reading.{meaningOf};
-ghost use Rattle.tree.specs.Building.{Ready, RunRead, ItemRead, Descended, closing};
+ghost use Rattle.tree.specs.inner.Building.{Ready, RunRead, ItemRead, Descended, closing};
 
 // How far a text is read: up to the byte at `at`, with n nodes before it.
 pub struct ReadTo {

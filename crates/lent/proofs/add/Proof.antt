@@ -42,7 +42,7 @@ use Rattle.chain.specs.Acts.{add, numberGiven}
 use Rattle.chain.specs.View.{view, Sound, Does}
 use Rattle.chain.specs.declared.Session.{Session}
 use Rattle.chain.specs.declared.Added.{Added}
-use Rattle.lent.specs.Listing.{noNodes, withPairs, heldIn, NodesFit}
+use Rattle.lent.specs.inner.Listing.{noNodes, withPairs, heldIn, NodesFit}
 use Rattle.lent.specs.declared.listing.NodeLists.{NodeLists}
 use Rattle.seed.proofs.Pair as T
 use Rattle.chain.proofs.Session as S

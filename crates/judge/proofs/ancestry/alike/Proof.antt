@@ -9,7 +9,7 @@ use Rattle.seed.specs.Tests.{alikeTo, alike}
 use Rattle.seed.specs.Pairs.{pairsOf}
 use Rattle.seed.proofs.PairLists.{count-first}
 use Rattle.seed.proofs.Scans.{Passed, scan-start, scan-no, scan-on, scan-end}
-use Rattle.judge.specs.Steps.{Rows}
+use Rattle.judge.specs.inner.Steps.{Rows}
 use Rattle.judge.proofs.Rising.{ups-grow, rises-ups, bytes-few, cut-early}
 use Rattle.judge.proofs.Rows.{rows-start, row-put, alike-looked}
 use Rattle.judge.proofs.ancestry.alike.Statement.{statement}

@@ -5,7 +5,7 @@ use native.Mathlib.Omega.{arith}
 use lib.ListN.{length, getD}
 use Rattle.seed.specs.Seed.{lastNode}
 use Rattle.judge.proofs.JudgeSteps.{last-node-at}
-use Rattle.judge.specs.Steps.{Past}
+use Rattle.judge.specs.inner.Steps.{Past}
 use Rattle.judge.proofs.Climbs.{past-start, past-end, passed-room, passed-bare, passed-on}
 use Rattle.judge.proofs.border.bordered.Statement.{statement}
 use Rattle.judge.proofs.border.bordered.Tie as tie

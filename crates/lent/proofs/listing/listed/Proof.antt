@@ -50,7 +50,7 @@ use denote.Triple.Walked.{says, Stays, stay-none-slice, walkOf, goes-none-slice,
 use denote.Triple.Clauses.{ensured, lasts}
 use denote.Exit.{yes}
 use Rattle.seed.specs.declared.Pair.{Pair}
-use Rattle.lent.specs.Listing.{noNodes, withOneMore, withPairs}
+use Rattle.lent.specs.inner.Listing.{noNodes, withOneMore, withPairs}
 use Rattle.lent.specs.declared.listing.NodeLists.{NodeLists}
 use Rattle.seed.proofs.Pair as T
 use Rattle.seed.proofs.Pair.Laws as T′

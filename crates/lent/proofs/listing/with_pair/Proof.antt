@@ -2,7 +2,7 @@
 use native.Mathlib.Omega.{arith}
 use borrow.Author.Needs.{needs}
 use borrow.Author.Tests.{lt-ltb, le-ltb}
-use Rattle.lent.specs.Listing.{withOneMore}
+use Rattle.lent.specs.inner.Listing.{withOneMore}
 use Rattle.lent.proofs.listing.with_pair.Statement.{statement}
 use Rattle.lent.proofs.listing.with_pair.Tie as tie
 

@@ -4,7 +4,7 @@ use mathlib.Core.List.{List}
 use Prim.Native.Nat.{ℕ}
 use native.Mathlib.Omega.{arith}
 use lib.ListN.{length-set}
-use Rattle.tree.specs.Building.{Descended}
+use Rattle.tree.specs.inner.Building.{Descended}
 use Rattle.tree.proofs.Growing.{fewer-nodes}
 use Rattle.tree.proofs.Descents.{Climbed, climb-start, climb-few, climb-onward, climb-end, climb-inside, climb-ready, climb-dot, climb-opens, climb-closed, climb-stuck}
 use Rattle.tree.proofs.run.+read_inside+read_item+read_rest+read_run.Proof.Claims.{read-inside-at, read-inside-claims}

@@ -1,9 +1,9 @@
 -- What is built of a tree while a text is read.
 use mathlib.Core.Path.{_≡_}
-use mathlib.Core.Bool.{Bool, true, false}
+use mathlib.Core.Bool.{Bool, true, false, _&&_}
 use mathlib.Core.Logic.{_⊎_}
 use Prim.Native.Nat.{ℕ, zero, suc, _+_, _≤_, _<_}
-use mathlib.Core.List.{List}
+use mathlib.Core.List.{List, [], _∷_}
 use lib.ListN.{length, getD, set, drop}
 use lib.Seq.{sets}
 use Rattle.tree.specs.Run.{Run, spell, size, leftsFrom}
@@ -91,3 +91,14 @@ pub record Descended (s : List ℕ) (at n : ℕ) (left : List ℕ) (x : ReadTo) 
   pub counted : x .n ≡ nodesPast s at n bytes
   pub written : after ≡ leavesPast s at n left bytes
   pub stops : (meaningOf (getD s (x .at) 0) ≡ Closing) ⊎ (meaningOf (getD s (x .at) 0) ≡ Refused)
+
+-- Whether a byte of some meaning is not refused, and whether no byte of a text is.
+abbrev pub known : Meaning → Bool
+known Unpaired = true
+known Opening = true
+known Closing = true
+known Refused = false
+
+abbrev pub allKnown : List ℕ → Bool
+allKnown [] = true
+allKnown (c ∷ s) = known (meaningOf c) && allKnown s

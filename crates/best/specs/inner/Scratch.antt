@@ -8,7 +8,7 @@ use lib.Dec.{T}
 use lib.IntN.{ℤ, pos}
 use lib.ListN.{length, getD}
 use Rattle.optimum.specs.Key.{Key, empty, _⊕_, better, seedKey, inMask}
-use Rattle.optimum.specs.Table.{Items, Laws, Limited, maxBelow, KeysUnder, KeyRow, stored, Small}
+use Rattle.optimum.specs.inner.Table.{Items, Laws, Limited, maxBelow, KeysUnder, KeyRow, stored, Small}
 use Rattle.standing.specs.Standing.{numberAt}
 use Rattle.standing.specs.declared.Standing.{Standing}
 
