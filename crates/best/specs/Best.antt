@@ -22,7 +22,7 @@ use Rattle.optimum.specs.Key.{Key, seedKey, inMask}
 use Rattle.optimum.specs.Best as optimum
 use Rattle.best.specs.declared.Best.{Best}
 
--- Ground 21: the scratch has fewer numbers than it must have.
+-- Ground 21: the scratch has fewer numbers than this.
 abbrev pub scratchNeeded : ℕ
 scratchNeeded = 4096
 
@@ -49,6 +49,7 @@ keyOf Q T rows = optimum.best (λ i j. chainable Q T (rowIn rows i .pairs) (rowI
 abbrev pub bestOfKey : Key → Best
 bestOfKey k = record { answer = Accepted; total = natAbs (k .total); chain = tab 64 (inMask (k .mask)) }
 
+-- What is answered on that ground.
 abbrev pub tooShort : Best
 tooShort = record { answer = Refused ScratchShort Nothing; total = 0; chain = replicate 64 false }
 

@@ -8,14 +8,6 @@ use Rattle.tree.specs.Reading.{Reading, reading, treeOf, single}
 use Rattle.tree.specs.Reading.Reading.{textAccepted, textRefused}
 use Rattle.dealing.specs.declared.texts.TwoTrees.{TwoTrees}
 
--- The answer of a reading, whose text is T.
-abbrev pub inT : Answer → Answer
-inT Accepted = Accepted
-inT (Refused g (ByteInQ k)) = Refused g (ByteInT k)
-inT (Refused g (ByteInT k)) = Refused g (ByteInT k)
-inT (Refused g (Seed n)) = Refused g (Seed n)
-inT (Refused g Nothing) = Refused g Nothing
-
 -- A refusal hands over the trees of the texts `.` and `.`.
 abbrev pub neither : Answer → TwoTrees
 neither a = record { answer = a; q = treeOf single; t = treeOf single }
@@ -28,3 +20,11 @@ bothOf (textAccepted r) (textAccepted p) = record { answer = Accepted; q = treeO
 
 unfoldable pub bothRead : List ℕ → List ℕ → TwoTrees
 bothRead q t = bothOf (reading q) (reading t)
+
+-- For inner functions: the answer of a reading, whose text is T.
+abbrev pub inT : Answer → Answer
+inT Accepted = Accepted
+inT (Refused g (ByteInQ k)) = Refused g (ByteInT k)
+inT (Refused g (ByteInT k)) = Refused g (ByteInT k)
+inT (Refused g (Seed n)) = Refused g (Seed n)
+inT (Refused g Nothing) = Refused g Nothing

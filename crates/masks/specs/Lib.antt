@@ -1,2 +1,2 @@
--- What a reader believes, in document 01's order.
+-- What the contracts of public functions cite.
 pub mod Masks

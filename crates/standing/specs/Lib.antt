@@ -1,4 +1,4 @@
--- What a reader believes, in document 01's order.
+-- What the contracts of public functions cite.
 pub mod Standing
 -- What only the contracts of inner functions cite.
 pub mod inner

@@ -31,7 +31,7 @@ inputBetween input start end = take (end - start) (drop start input)
 abbrev pub partFrom : List ℕ → ℕ → ℕ → Part
 partFrom input start end = record { start = start; end = start + length (ahead (inputBetween input start end)) }
 
--- For the inner functions: the lines of a session's best chain are written, and the scratch is zero, or as it was on a refusal.
+-- The lines of a session's best chain are written, and the scratch is zero, or as it was on a refusal.
 pub record ChainPut (s : State) (scratch scratch′ out out′ : List ℕ) (r : Written) : Type 0 where
   pub wrote : Wrote (chainLines s) out out′ r
   pub scratch-left : scratch′ ≡ scratchBy (r .answer) (replicate (length scratch) 0) scratch
