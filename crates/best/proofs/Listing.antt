@@ -125,7 +125,7 @@ module _ {Q T′ : List ℕ} (tree-q : Nested Q) (tree-t : Nested T′) (rows : 
             present = λ k b t. rw (o .present k b) tt;
             listed = λ i b t. let p = o .listed i b (T-eq t) in record { at = p .at; below = p .below; inside = tt; numbered = p .holds };
             symmetric = λ i j. chain-sym (rowIn rows i .pairs) (rowIn rows j .pairs);
-            itemsChainable = λ j k a b.
+            chainable = λ j k a b.
                 or-e (marked (s .lefts) j k) (marked (s .unders) j k)
                 (λ t. laws .left j k (omega arith) b (left-says j k b t .1))
                 (λ t. laws .under j k (omega arith) b (under-says j k b t .1));
