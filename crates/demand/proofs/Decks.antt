@@ -111,7 +111,7 @@ module _ (s : Session) (h : Sound s) where
           let a = not-refused (nextAnswer (leavesOf (s .q)) (leavesOf (s .t)) (rowsOf (s .table)) ps z) (countAnswer (s .changes)) e in
           record { addable = exactly .0 (a .0); room = count-room (s .changes) (a .1) }
 
-  pub deck-read : deck.deckReading (plainOf (presentRows (rowsOf (s .table)))) ≡ deck.DeckReading.accepted (presentRows (rowsOf (s .table)))
+  pub deck-read : deck.deckReading (plainOf (presentRows (rowsOf (s .table)))) ≡ deck.DeckReading.deckAccepted (presentRows (rowsOf (s .table)))
   deck-read =
       let rows : List Row = rowsOf (s .table) in
       read-plain (presentRows rows)

@@ -43,21 +43,21 @@ use Rattle.demand.proofs.Grounds.{add-decides}
 
 -- The two texts.
 of-t : {J : Said → Type 0} (x : tree.Reading) → Decides J (tree.textAnswer x) → Decides (OfT J) (inT (tree.textAnswer x))
-of-t {J} (tree.Reading.accepted r) d = record { judged = none (d .judged); decided = go }
+of-t {J} (tree.Reading.textAccepted r) d = record { judged = none (d .judged); decided = go }
   where
     go : {x : Said} → OfT J x → x ≡ accepted
     go (byte h) = let e = d .decided h in clash (cc)
     go (none h) = refl
-of-t {J} (tree.Reading.refused g k) d = record { judged = byte (d .judged); decided = go }
+of-t {J} (tree.Reading.textRefused g k) d = record { judged = byte (d .judged); decided = go }
   where
     go : {x : Said} → OfT J x → x ≡ refused (numberOf g) (ByteInT k)
     go (byte h) = let e = d .decided h in cc
     go (none h) = let e = d .decided h in clash (cc)
 
 both-answer : (x y : tree.Reading) → unless (tree.textAnswer x) (inT (tree.textAnswer y)) ≡ bothOf x y .answer
-both-answer (tree.Reading.refused g k) y = refl
-both-answer (tree.Reading.accepted r) (tree.Reading.refused g k) = refl
-both-answer (tree.Reading.accepted r) (tree.Reading.accepted p) = refl
+both-answer (tree.Reading.textRefused g k) y = refl
+both-answer (tree.Reading.textAccepted r) (tree.Reading.textRefused g k) = refl
+both-answer (tree.Reading.textAccepted r) (tree.Reading.textAccepted p) = refl
 
 pub open-decides : (q t : List ℕ) → Decides (OpenSays q t) (opening q t .answer)
 unfolding opening bothRead
@@ -117,8 +117,8 @@ unfolding opening pairsInAll flatten
 deck-fits q t d = go (deck.deckReading d) refl
   where
     go : (x : deck.DeckReading) → deck.deckReading d ≡ x → Fits (opening q t .state) (rowsIn x)
-    go (deck.DeckReading.refused g p) e = record { seeds = omega arith; pairs = omega arith; some = λ i l. absurd (omega arith); count = omega arith }
-    go (deck.DeckReading.accepted rows) e =
+    go (deck.DeckReading.deckRefused g p) e = record { seeds = omega arith; pairs = omega arith; some = λ i l. absurd (omega arith); count = omega arith }
+    go (deck.DeckReading.deckAccepted rows) e =
         let w = storable d rows (source d rows e) in
         let n = length-map rows (λ (r : Row). r .pairs) in
         record { seeds = omega (arith, w .seeds); pairs = omega (arith, w .pairs); some = λ i l. w .some i (omega arith); count = omega arith }
