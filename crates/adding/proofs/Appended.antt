@@ -17,10 +17,10 @@ use Rattle.seed.proofs.Tabs.{tab-more}
 use Rattle.table.specs.Rows.{Row, newRow}
 use Rattle.table.specs.Table.{nodesOf, pairsAt, rowAt, rowsOf, Laid}
 use Rattle.table.specs.declared.Table.{Table}
-use Rattle.adding.specs.Appending.{withSeed, Room}
+use Rattle.adding.specs.inner.Appending.{withSeed, SeedRoom}
 use Rattle.adding.proofs.Copying.{between-before, between-copied}
 
-module _ (t : Table) (qs ts : List ℕ) (z : ℤ) (g : Room t qs ts) where
+module _ (t : Table) (qs ts : List ℕ) (z : ℤ) (g : SeedRoom t qs ts) where
   abbrev next : Table
   next = withSeed t qs ts z
 

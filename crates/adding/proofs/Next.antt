@@ -25,13 +25,13 @@ use Rattle.seed.specs.declared.Pair.{Pair}
 use Rattle.seed.proofs.PairLists.{count-most}
 use Rattle.judge.specs.Judge.{judgeOf}
 use Rattle.judge.proofs.Grounds.{accepts-seeds}
-use Rattle.table.specs.Rows.{Row, newRow, pairCount, inRange}
+use Rattle.table.specs.Rows.{Row, newRow, pairsInAll, inRange}
 use Rattle.table.specs.Table.{rowsOf, Kept}
 use Rattle.table.specs.declared.Table.{Table}
 use Rattle.table.proofs.Tables.{rows-length, rows-count}
 use Rattle.table.proofs.Held.{all-more}
 use Rattle.adding.specs.Adding.{limitAnswer, nextAnswer, Grows, Addable}
-use Rattle.adding.specs.Appending.{withSeed, Room}
+use Rattle.adding.specs.inner.Appending.{withSeed, SeedRoom}
 use Rattle.adding.proofs.Appended.{laid-new, rows-new}
 
 -- The limits that an accepted seed keeps.
@@ -71,8 +71,8 @@ module _ {Q T : List ℕ} (tree-q : Nested Q) (tree-t : Nested T) (rows : List R
   addable : nextAnswer Q T rows ps z ≡ Accepted → Addable Q T rows ps z
   unfolding nextAnswer
   addable e =
-      let a = not-refused (limitAnswer (length rows) (pairCount rows) (length ps) z) _ e in
-      let w = limits-kept (length rows) (pairCount rows) (length ps) z (a .0) in
+      let a = not-refused (limitAnswer (length rows) (pairsInAll rows) (length ps) z) _ e in
+      let w = limits-kept (length rows) (pairsInAll rows) (length ps) z (a .0) in
       record {
         ranged = w .ranged;
         seed-room = w .seed-room;
@@ -84,7 +84,7 @@ module _ {Q T : List ℕ} (tree-q : Nested Q) (tree-t : Nested T) (rows : List R
   unfolding nextAnswer
   adds w =
       rw (
-        keeps-limits (length rows) (pairCount rows) (length ps) z record { ranged = w .ranged; some = w .seed .some; seed-room = w .seed-room; pair-room = w .pair-room },
+        keeps-limits (length rows) (pairsInAll rows) (length ps) z record { ranged = w .ranged; some = w .seed .some; seed-room = w .seed-room; pair-room = w .pair-room },
         accepts-seeds tree-q tree-t ps (length rows + 1) (w .seed .some) .1 (w .seed),
       )
 
@@ -125,7 +125,7 @@ module _ (q t : Tree) (table : Table) (qs ts : List ℕ) (z : ℤ) (h : Kept q t
     known : Addable (leavesOf q) (leavesOf t) (rowsOf table) (pairsOf qs ts) z
     known = addable (tree-nested q (h .is-q)) (tree-nested t (h .is-t)) (rowsOf table) (pairsOf qs ts) z (sym e ∙ ok)
 
-    pub add-room : Room table (take n qs) (take n ts)
+    pub add-room : SeedRoom table (take n qs) (take n ts)
     add-room =
         let lq = cut-q qs ts n count in
         let lt = cut-t qs ts n count in

@@ -16,9 +16,16 @@ use Rattle.tree.specs.declared.Tree.{Tree}
 use Rattle.seed.specs.Seed as seed
 use Rattle.seed.specs.declared.Pair.{Pair}
 use Rattle.judge.specs.Judge.{judgeOf}
-use Rattle.table.specs.Rows.{Row, newRow, pairCount, inRange}
+use Rattle.table.specs.Rows.{Row, newRow, pairsInAll, inRange}
 use Rattle.table.specs.Table.{rowsOf, Kept}
 use Rattle.table.specs.declared.Table.{Table}
+
+-- A list that is a seed of two trees and keeps the limits of a table with these rows.
+pub record Addable (Q T : List ℕ) (rows : List Row) (ps : List Pair) (z : ℤ) : Type 0 where
+  pub ranged : inRange z ≡ true
+  pub seed-room : length rows < 64
+  pub pair-room : pairsInAll rows + length ps ≤ 1024
+  pub seed : seed.Seed Q T ps
 
 -- Grounds 11 to 14 of a seed with so many pairs, for a table of so many seeds and pairs. The seed would get the number after the last.
 unfoldable pub limitAnswer : ℕ → ℕ → ℕ → ℤ → Answer
@@ -30,7 +37,7 @@ limitAnswer seeds pairs count z =
 
 -- Grounds 11 to 14 of a list, then 15 to 19.
 unfoldable pub nextAnswer : List ℕ → List ℕ → List Row → List Pair → ℤ → Answer
-nextAnswer Q T rows ps z = unless (limitAnswer (length rows) (pairCount rows) (length ps) z) (judgeOf Q T ps (length rows + 1))
+nextAnswer Q T rows ps z = unless (limitAnswer (length rows) (pairsInAll rows) (length ps) z) (judgeOf Q T ps (length rows + 1))
 
 -- What adding a list promises that answers so and hands over the next table: one present row more, or the very table.
 pub record Grows (q t : Tree) (table : Table) (ps : List Pair) (z : ℤ) (answer : Answer) (next : Table) : Type 0 where
@@ -38,10 +45,3 @@ pub record Grows (q t : Tree) (table : Table) (ps : List Pair) (z : ℤ) (answer
   pub accepted : answer ≡ Accepted → rowsOf next ≡ rowsOf table ++ newRow ps z ∷ []
   pub refused : (answer ≡ Accepted → ⊥) → next ≡ table
   pub kept : Kept q t next
-
--- A list that is a seed of two trees and keeps the limits of a table with these rows.
-pub record Addable (Q T : List ℕ) (rows : List Row) (ps : List Pair) (z : ℤ) : Type 0 where
-  pub ranged : inRange z ≡ true
-  pub seed-room : length rows < 64
-  pub pair-room : pairCount rows + length ps ≤ 1024
-  pub seed : seed.Seed Q T ps

@@ -4,7 +4,7 @@ ghost use mathlib.Core.Path.{_≡_};
 ghost use Prim.Native.Nat.{_+_, _≤_};
 ghost use lib.ListN.{length};
 ghost use lib.Seq.{paste};
-ghost use Rattle.adding.specs.Appending.{withSeed, Room};
+ghost use Rattle.adding.specs.inner.Appending.{withSeed, SeedRoom};
 
 // Puts the bytes of a slice into an array from a place on.
 fn paste(array: &mut [u8; 1024], at: usize, s: &[u8])
@@ -20,7 +20,7 @@ fn paste(array: &mut [u8; 1024], at: usize, s: &[u8])
 
 // The table with a present seed of these q and t and this score behind the last.
 pub fn appended(table: Table, qs: &[u8], ts: &[u8], score: i32) -> Table
-    requires { ⌜ Room table (now qs) (now ts) ⌝ }
+    requires { ⌜ SeedRoom table (now qs) (now ts) ⌝ }
     ensures { λ r. ⌜ r ≡ withSeed table (now (qs .entry)) (now (ts .entry)) score ⌝ }
 {
     let at = table.pairs;

@@ -11,7 +11,7 @@ use Rattle.answer.specs.declared.Place.{Place}
 use Rattle.answer.specs.declared.Answer.{Answer}
 use Rattle.answer.specs.declared.Answer.the-variants.{Accepted, Refused}
 use Rattle.answer.proofs.Denied.{clash}
-use Rattle.answer.proofs.Tells.{Tells}
+use Rattle.answer.specs.Tells.{Tells}
 
 -- One ground, whose condition a test tells.
 pub ground : {C : Type 0} (b : Bool) → Tells b C → (g : Ground) (p : Place) → Decides (GivenIf C (numberOf g) p) (given b g p Accepted)

@@ -1,13 +1,11 @@
--- A test tells a fact: it is true exactly if the fact holds. How such tests are joined.
+-- How tests that tell a fact are joined.
 use mathlib.Core.Path.{_≡_, refl}
 use mathlib.Core.Bool.{Bool, true, false, not, cond, _&&_, _||_, Bool·beq, true≢false, false≢true}
 use mathlib.Core.Logic.{_⊎_, inl, inr, _↔_}
 use Prim.Native.Nat.{ℕ, _≤_, _<_}
 use lib.Dec.{leb, ltb, eqb}
 use borrow.Author.Tests.{leb-true, le-leb, ltb-true, lt-ltb, eqb-true, eq-eqb}
-
-abbrev pub Tells : Bool → Type 0 → Type 0
-Tells b P = (b ≡ true → P) × (P → b ≡ true)
+use Rattle.answer.specs.Tells.{Tells}
 
 -- A fact that a test tells holds or does not
 pub decided : (b : Bool) (P : Type 0) → Tells b P → P ⊎ (¬ P)

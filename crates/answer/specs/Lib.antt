@@ -1,2 +1,4 @@
+-- What a reader believes, in document 01's order.
 pub mod Answer
 pub mod Grounds
+pub mod Tells

@@ -11,7 +11,7 @@ use Rattle.tree.proofs.Trees.{tree-nodes, tree-length, tree-nested}
 use Rattle.seed.specs.Tab.{tab}
 use Rattle.seed.specs.Area.{Box}
 use Rattle.seed.specs.AreaList.{areas}
-use Rattle.area.specs.Gaps.{gap, filled, boxesBelow}
+use Rattle.area.specs.inner.Gaps.{gap, filled, boxesBelow}
 use Rattle.area.specs.Listed.{ListedRight}
 use Rattle.seed.specs.Pairs.{pairsOf, Held}
 use Rattle.area.specs.declared.Listed.{Listed}

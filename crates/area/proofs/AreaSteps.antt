@@ -21,23 +21,23 @@ use Rattle.write.proofs.Wrote.{output-all, output-none}
 use Rattle.tree.proofs.Leaves.{lt-or-le}
 use Rattle.seed.specs.Area.{Box}
 use Rattle.seed.specs.AreaList.{firstBelow, lastBelow, column, boxAt, begins, boxRow, boxes, bytesOf}
-use Rattle.area.specs.Gaps.{meets, like, meet, boxFrom, boxesBelow}
+use Rattle.area.specs.inner.Gaps.{sameGap, like, meet, boxFrom, boxesBelow}
 use Rattle.area.specs.Listed.{listedOf, ListedRight}
 
 -- Two gaps compared.
-pub meets-not : (x y : ℕ) → (x ≡ y → ⊥) → meets x y ≡ false
-unfolding meets
+pub meets-not : (x y : ℕ) → (x ≡ y → ⊥) → sameGap x y ≡ false
+unfolding sameGap
 meets-not x y h = rw (ne-eqb x y h)
 
-pub meets-if : (x y : ℕ) → x ≡ y → meets x y ≡ not (eqb x 0)
-unfolding meets
+pub meets-if : (x y : ℕ) → x ≡ y → sameGap x y ≡ not (eqb x 0)
+unfolding sameGap
 meets-if x y h = rw (eq-eqb x y h)
 
-pub like-is : (x : ℕ) (g : List ℕ) (i : ℕ) → like x g i ≡ meets x (getD g i 0)
+pub like-is : (x : ℕ) (g : List ℕ) (i : ℕ) → like x g i ≡ sameGap x (getD g i 0)
 unfolding like
 like-is x g i = refl
 
-meets-turned : (x y : ℕ) → meets x y ≡ meets y x
+meets-turned : (x y : ℕ) → sameGap x y ≡ sameGap y x
 meets-turned x y =
     elim (ℕ-discrete x y) [
       | yes e ↦ rw e
@@ -59,7 +59,7 @@ module _ (g h : List ℕ) (a c : ℕ) where
   unfolding begins
   begins-first u e = let z : a ≤ 0 = omega arith in rw (lt-ltb c (length h) u, le-ltb 0 a z)
 
-  pub begins-by : c < length h → (a ≡ 0 → ⊥) → begins (meet g h) (length h) a c ≡ not (meets (getD g (a - 1) 0) (getD h c 0))
+  pub begins-by : c < length h → (a ≡ 0 → ⊥) → begins (meet g h) (length h) a c ≡ not (sameGap (getD g (a - 1) 0) (getD h c 0))
   unfolding begins meet like
   begins-by u e = let z : 0 < a = omega arith in rw (lt-ltb c (length h) u, lt-ltb 0 a z)
 

@@ -12,10 +12,11 @@ use Rattle.seed.specs.Tab.{tab}
 use Rattle.seed.specs.Seed.{Seed, qs, ts}
 use Rattle.seed.specs.Area.{FitsAt}
 use Rattle.seed.specs.AreaList.{fits, areas}
-use Rattle.area.specs.Gaps.{gap, meets, like, meet, boxesBelow}
+use Rattle.area.specs.inner.Gaps.{gap, sameGap, like, meet, boxesBelow}
 use Rattle.seed.specs.declared.Pair.{Pair}
 use Rattle.seed.proofs.Tabs.{length-tab, getD-tab}
-use Rattle.answer.proofs.Tells.{Tells, tells-eq, tells-as, tells-and, tells-not}
+use Rattle.answer.specs.Tells.{Tells}
+use Rattle.answer.proofs.Tells.{tells-eq, tells-as, tells-and, tells-not}
 use Rattle.seed.proofs.Sides.{tells-fits}
 use Rattle.seed.proofs.Areas.{bound}
 use Rattle.area.proofs.Gaps.{gap-fits}
@@ -42,7 +43,7 @@ module _ {Q T : List ℕ} (tree-q : Nested Q) (tree-t : Nested T) (s : List Pair
   H = tab (length T) (gap T (ts s))
 
   tells-meet : (i j : ℕ) → Tells (meet G H i j) (FitsAt Q T s i j)
-  unfolding meet like meets
+  unfolding meet like sameGap
   tells-meet i j = tells-as (tells-and _ _ (tells-eq (getD G i 0) (getD H j 0)) (tells-not _ (tells-eq (getD G i 0) 0))) to from
     where
       to : (getD G i 0 ≡ getD H j 0) × (getD G i 0 ≢ 0) → FitsAt Q T s i j

@@ -21,7 +21,7 @@ ghost use Rattle.seed.specs.AreaList.{firstBelow, lastBelow, bytesOf};
 ghost use Rattle.seed.specs.AreaList as lists;
 ghost use Rattle.table.specs.Rows.{rowIn};
 ghost use Rattle.table.specs.Table.{rowsOf, Kept};
-ghost use Rattle.area.specs.Gaps as gaps;
+ghost use Rattle.area.specs.inner.Gaps as gaps;
 ghost use Rattle.area.specs.Listed.{ListedRight};
 
 // What is answered, and how many areas there are: 0 if they are refused.
@@ -77,7 +77,7 @@ fn gaps_of(l: &[u8], nodes: &[u8]) -> [usize; 256]
 
 // Whether nodes with these gaps fit.
 fn meets(x: usize, y: usize) -> bool
-    ensures { λ r. ⌜ r ≡ gaps.meets x y ⌝ }
+    ensures { λ r. ⌜ r ≡ gaps.sameGap x y ⌝ }
 {
     if x != y {
         return false;

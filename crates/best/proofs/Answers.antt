@@ -19,12 +19,12 @@ use Rattle.table.specs.Table.{rowAt, rowsOf, Kept}
 use Rattle.table.specs.declared.Table.{Table}
 use Rattle.table.proofs.Tables.{rows-length, row-there}
 use Rattle.optimum.specs.Key.{inMask}
-use Rattle.optimum.specs.Table.{stored}
-use Rattle.optimum.specs.Table as optimum
+use Rattle.optimum.specs.inner.Table.{stored}
+use Rattle.optimum.specs.inner.Table as optimum
 use Rattle.optimum.proofs.Booleans.{and-r}
 use Rattle.standing.specs.Standing.{Stood}
 use Rattle.best.specs.Best.{keyOf, scratchNeeded, tooShort, bestOf, scratchAfter, Answered}
-use Rattle.best.specs.Scratch.{scoreBy, itemsOf, Posed}
+use Rattle.best.specs.inner.Scratch.{scoreBy, itemsOf, Posed}
 use Rattle.standing.specs.declared.Standing.{Standing}
 use Rattle.best.proofs.Listing.{posed, key-is}
 
@@ -62,5 +62,5 @@ module _ (q t : Tree) (table : Table) where
     pub table-posed : Posed s (table .scores)
     table-posed = posed (tree-nested q (h .is-q)) (tree-nested t (h .is-t)) (rowsOf table) few seeds s o (table .scores) most
 
-    pub table-key : optimum.bestOf (itemsOf s (table .scores)) (λ x. true) (s .count) ≡ keyOf (leavesOf q) (leavesOf t) (rowsOf table)
+    pub table-key : optimum.bestAmong (itemsOf s (table .scores)) (λ x. true) (s .count) ≡ keyOf (leavesOf q) (leavesOf t) (rowsOf table)
     table-key = key-is (tree-nested q (h .is-q)) (tree-nested t (h .is-t)) (rowsOf table) few seeds s o (table .scores) score-row

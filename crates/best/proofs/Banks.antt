@@ -12,11 +12,11 @@ use lib.ListN.{length, getD, set, length-set}
 use lib.Seq.{getD-set-same, getD-set-other}
 use Rattle.tree.proofs.Leaves.{lt-or-le}
 use Rattle.optimum.specs.Key.{Key, empty, better, inMask}
-use Rattle.optimum.specs.Table.{maxBelow, stored}
+use Rattle.optimum.specs.inner.Table.{maxBelow, stored}
 use Rattle.optimum.proofs.Keys.{_≼_, ≼-refl, ≼-trans, ≼-antisym, better-l, better-r, better-ind}
 use Rattle.optimum.proofs.Maxima.{max-empty, max-upper, max-least}
 use Rattle.masks.specs.Masks.{minus}
-use Rattle.best.specs.Scratch.{keyAt, rows, marked, Rising}
+use Rattle.best.specs.inner.Scratch.{keyAt, rowBank, marked, RowRises}
 use Rattle.masks.proofs.Bits.{in-either, alone-is, minus-from, minus-gone}
 use Rattle.masks.proofs.Bits.{nothing}
 
@@ -81,9 +81,9 @@ search-start mask d =
       reached = max-empty (inMask mask) d 64;
     }
 
-module _ {xs lefts : List ℕ} {mask : ℕ} (r : Rising xs lefts mask) {rest : ℕ} {best : Key} (s : Searched mask (keyAt xs rows) rest best) where
+module _ {xs lefts : List ℕ} {mask : ℕ} (r : RowRises xs lefts mask) {rest : ℕ} {best : Key} (s : Searched mask (keyAt xs rowBank) rest best) where
   abbrev d : ℕ → Key
-  d = keyAt xs rows
+  d = keyAt xs rowBank
 
   -- Item k is looked at, and what is left of it need not be.
   pub search-turn : (k : ℕ) → k < 64 → inMask rest k ≡ true → {key best′ : Key} {rest′ : ℕ} → key ≡ d k → best′ ≡ better best key → rest′ ≡ minus rest (bitOr (2 ^ k) (getD lefts k 0)) → Searched mask d rest′ best′

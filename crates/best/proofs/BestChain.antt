@@ -29,7 +29,7 @@ use Rattle.table.specs.Rows.{Row, rowIn}
 use Rattle.table.specs.Table.{rowsOf, Kept}
 use Rattle.table.specs.declared.Table.{Table}
 use Rattle.table.proofs.Tables.{rows-length}
-use Rattle.best.specs.Best.{keyOf, accepted, scratchNeeded, bestOf, seedsOf, NamesBest, Answered}
+use Rattle.best.specs.Best.{keyOf, bestOfKey, scratchNeeded, bestOf, seedsOf, NamesBest, Answered}
 use Rattle.best.specs.declared.Best.{Best}
 use Rattle.masks.proofs.Bits.{told-yes}
 
@@ -88,7 +88,7 @@ module _ {Q T : List ℕ} (tree-q : Nested Q) (tree-t : Nested T) (rows : List R
   set-total = best-total S (λ i. i) test (seedKey (λ i. rowIn rows i .score)) (λ i. rowIn rows i .present) (length rows) numbered
 
   -- The best chain: the answer names the chain that is best of all by document 01, with exactly its total.
-  pub best-chain : length rows ≤ 64 → NamesBest S (accepted key)
+  pub best-chain : length rows ≤ 64 → NamesBest S (bestOfKey key)
   best-chain few =
       let e = tab-is (inMask (key .mask)) 64 (λ i t. omega (arith, best-set .chain .given i t)) in
       record { chain-best = rw e best-set; total-is = rw (e, set-total) (best-natural S (inMask (key .mask)) best-set) }

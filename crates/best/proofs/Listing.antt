@@ -21,12 +21,12 @@ use Rattle.seed.proofs.Laws as seed
 use Rattle.table.specs.Rows.{Row, rowIn}
 use Rattle.optimum.specs.Chain.{Seeds}
 use Rattle.optimum.specs.Key.{inMask, maskOf}
-use Rattle.optimum.specs.Table.{Items, Laws, Numbered, chainable, bestOf}
+use Rattle.optimum.specs.inner.Table.{Items, Laws, Numbered, itemsChainable, bestAmong}
 use Rattle.optimum.proofs.Booleans.{T-eq, and-i, or-l, or-r, or-e}
 use Rattle.optimum.proofs.BestChain.{Listed, best-agrees}
 use Rattle.standing.specs.Standing.{rankIn, numberAt, seedAt, Stood}
 use Rattle.best.specs.Best.{keyOf, seedsOf}
-use Rattle.best.specs.Scratch.{marked, scoreBy, itemsOf, Posed}
+use Rattle.best.specs.inner.Scratch.{marked, scoreBy, itemsOf, Posed}
 use Rattle.standing.specs.declared.Standing.{Standing}
 use Rattle.masks.proofs.Bits.{mask-has, mask-says, told-yes}
 use Rattle.best.proofs.BestChain.{numbered}
@@ -118,7 +118,7 @@ module _ {Q T′ : List ℕ} (tree-q : Nested Q) (tree-t : Nested T′) (rows : 
       abbrev S : Seeds
       S = seedsOf Q T′ rows
 
-      listed : Listed S (numberAt (s .numbers)) (chainable items) (items .worth) (λ x. true) (s .count)
+      listed : Listed S (numberAt (s .numbers)) (itemsChainable items) (items .worth) (λ x. true) (s .count)
       listed =
           record {
             numbered = places (length rows) (omega arith) (λ i. rowIn rows i .score) same;
@@ -141,6 +141,6 @@ module _ {Q T′ : List ℕ} (tree-q : Nested Q) (tree-t : Nested T′) (rows : 
               elim (lt-or-le (lastPair (at j) .q) (lastPair (at k) .q)) [ inl l ↦ l | inr l ↦ absurd (laws .differ j k (omega arith) b c (omega (arith, rises j k a b))) ]
 
       -- The best key of the table on the scratch is the definition's.
-      pub key-is : bestOf items (λ x. true) (s .count) ≡ keyOf Q T′ rows
+      pub key-is : bestAmong items (λ x. true) (s .count) ≡ keyOf Q T′ rows
       unfolding keyOf
       key-is = best-agrees S listed (numbered tree-q tree-t rows seeds)

@@ -14,7 +14,7 @@ use Rattle.tree.proofs.Leaves.{lt-or-le}
 use Rattle.optimum.specs.Key.{maskOf, inMask}
 use Rattle.optimum.proofs.Masks.{mask-self}
 use Rattle.masks.proofs.Bits.{mask-same, mask-has, nothing}
-use Rattle.best.specs.Scratch.{Lowest}
+use Rattle.best.specs.inner.Scratch.{Lowest}
 
 -- ---- the lowest number of a mask
 

@@ -11,7 +11,7 @@ use mir.Syntax.{w32, w64}
 use mir.Val.{SFits, Fits, toZ, ofZ}
 use mir.Facts.{toZ-ofZ, toZ-pos, sfits-widen, fits-natAbs}
 use Rattle.optimum.specs.Key.{empty, _⊕_, better}
-use Rattle.optimum.specs.Table.{stored}
+use Rattle.optimum.specs.inner.Table.{stored}
 use Rattle.optimum.proofs.StoredKeys.{clip-more, clip-zero, clip-less}
 
 mag-by : (a b : ℕ) (t : Bool) → ltb a (suc b) ≡ t → mag (cond t (negsuc (suc b - suc a)) (pos (a - suc b))) ≤ a + b

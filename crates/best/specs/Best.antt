@@ -22,28 +22,9 @@ use Rattle.optimum.specs.Key.{Key, seedKey, inMask}
 use Rattle.optimum.specs.Best as optimum
 use Rattle.best.specs.declared.Best.{Best}
 
--- The key of the best chain of the present seeds of a table, by trying all chains.
-unfoldable pub keyOf : List ℕ → List ℕ → List Row → Key
-keyOf Q T rows = optimum.best (λ i j. chainable Q T (rowIn rows i .pairs) (rowIn rows j .pairs)) (seedKey (λ i. rowIn rows i .score)) (λ i. rowIn rows i .present) (length rows)
-
--- What is answered of a key: its total, and for each seed number whether the chain has it.
-abbrev pub accepted : Key → Best
-accepted k = record { answer = Accepted; total = natAbs (k .total); chain = tab 64 (inMask (k .mask)) }
-
--- Ground 21: the scratch has fewer numbers than it must have.
+-- Ground 21: the scratch has fewer numbers than this.
 abbrev pub scratchNeeded : ℕ
 scratchNeeded = 4096
-
-abbrev pub tooShort : Best
-tooShort = record { answer = Refused ScratchShort Nothing; total = 0; chain = replicate 64 false }
-
--- What is answered on a scratch of so many numbers.
-unfoldable pub bestOf : List ℕ → List ℕ → List Row → ℕ → Best
-bestOf Q T rows room = cond (ltb room scratchNeeded) tooShort (accepted (keyOf Q T rows))
-
--- A refused call leaves the scratch as it was, and an accepted one leaves all of it zero.
-unfoldable pub scratchAfter : List ℕ → List ℕ
-scratchAfter xs = cond (ltb (length xs) scratchNeeded) xs (replicate (length xs) 0)
 
 -- The seeds to choose from, of which two are chainable by document 01's own words.
 abbrev pub seedsOf : List ℕ → List ℕ → List Row → Seeds
@@ -57,6 +38,28 @@ named r i = getD (r .chain) i false
 pub record NamesBest (S : Seeds) (r : Best) : Type 0 where
   pub chain-best : IsBest S (named r)
   pub total-is : pos (r .total) ≡ total S (named r)
+
+-- The best chain by trying all chains, computed, and what the call answers.
+
+-- The key of the best chain of the present seeds of a table, by trying all chains.
+unfoldable pub keyOf : List ℕ → List ℕ → List Row → Key
+keyOf Q T rows = optimum.best (λ i j. chainable Q T (rowIn rows i .pairs) (rowIn rows j .pairs)) (seedKey (λ i. rowIn rows i .score)) (λ i. rowIn rows i .present) (length rows)
+
+-- What is answered of a key: its total, and for each seed number whether the chain has it.
+abbrev pub bestOfKey : Key → Best
+bestOfKey k = record { answer = Accepted; total = natAbs (k .total); chain = tab 64 (inMask (k .mask)) }
+
+-- What is answered on that ground.
+abbrev pub tooShort : Best
+tooShort = record { answer = Refused ScratchShort Nothing; total = 0; chain = replicate 64 false }
+
+-- What is answered on a scratch of so many numbers.
+unfoldable pub bestOf : List ℕ → List ℕ → List Row → ℕ → Best
+bestOf Q T rows room = cond (ltb room scratchNeeded) tooShort (bestOfKey (keyOf Q T rows))
+
+-- A refused call leaves the scratch as it was, and an accepted one leaves all of it zero.
+unfoldable pub scratchAfter : List ℕ → List ℕ
+scratchAfter xs = cond (ltb (length xs) scratchNeeded) xs (replicate (length xs) 0)
 
 -- What the call promises of its answer and of the scratch, which held xs and holds ys.
 pub record Answered (q t : Tree) (table : Table) (xs ys : List ℕ) (r : Best) : Type 0 where

@@ -4,9 +4,9 @@ ghost use mathlib.Core.Logic.{_≢_};
 ghost use Prim.Native.Nat.{_+_, _-_, _^_, _≤_, _<_};
 ghost use lib.ListN.{length, set};
 ghost use Rattle.optimum.specs.Key.{empty, better, _⊕_, inMask};
-ghost use Rattle.optimum.specs.Table.{stored};
+ghost use Rattle.optimum.specs.inner.Table.{stored};
 ghost use Rattle.seed.specs.Tab.{tab};
-ghost use Rattle.best.specs.Scratch.{Lowest, keyAt};
+ghost use Rattle.best.specs.inner.Scratch.{Lowest, keyAt};
 
 // The total of a chain and the mask of its numbers.
 pub struct Stored {

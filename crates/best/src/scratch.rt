@@ -16,8 +16,8 @@ ghost use mathlib.Core.Bool.{true};
 ghost use Prim.Native.Nat.{_≤_};
 ghost use lib.ListN.{length};
 ghost use Rattle.optimum.specs.Key.{inMask};
-ghost use Rattle.optimum.specs.Table.{bestOf, maxBelow, stored};
-ghost use Rattle.best.specs.Scratch as spec;
+ghost use Rattle.optimum.specs.inner.Table.{bestAmong, maxBelow, stored};
+ghost use Rattle.best.specs.inner.Scratch as spec;
 
 // Where the bank begins that has each item's key with the best chain under it.
 const ITEMS: usize = 0;
@@ -31,8 +31,8 @@ const ALL: u64 = 18446744073709551615;
 // The best key of the row at hand among the items that a mask has, and of the empty chain. No item is better than one that it is left of, so
 // that what is left of an item looked at is not looked at.
 fn best_in(scratch: &[u64], lefts: &[u64], mask: u64) -> Stored
-    requires { ⌜ spec.Rising (now scratch) (now lefts) mask ⌝ }
-    ensures { λ r. ⌜ stored (r .total) (r .mask) ≡ maxBelow (inMask mask) (spec.keyAt (now (scratch .entry)) spec.rows) 64 ⌝ }
+    requires { ⌜ spec.RowRises (now scratch) (now lefts) mask ⌝ }
+    ensures { λ r. ⌜ stored (r .total) (r .mask) ≡ maxBelow (inMask mask) (spec.keyAt (now (scratch .entry)) spec.rowBank) 64 ⌝ }
 {
     let mut best = Stored { total: 0, mask: 0 };
     let mut rest = mask;
@@ -94,7 +94,7 @@ fn fill_items(scratch: &mut [u64], standing: Standing, scores: &[i32; 64])
 // The best key of a chain of the items.
 pub fn solve(scratch: &mut [u64], standing: Standing, scores: &[i32; 64]) -> Stored
     requires { ⌜ spec.Posed standing (now scores) ⌝ ∗ ⌜ 256 ≤ length (now scratch) ⌝ }
-    ensures { λ r. ⌜ stored (r .total) (r .mask) ≡ bestOf (spec.itemsOf standing (now (scores .entry))) (λ x. true) (standing .count) ⌝ }
+    ensures { λ r. ⌜ stored (r .total) (r .mask) ≡ bestAmong (spec.itemsOf standing (now (scores .entry))) (λ x. true) (standing .count) ⌝ }
 {
     fill_items(scratch, standing, scores);
     fill_row(scratch, &standing.lefts, ALL, standing.count)

@@ -31,11 +31,6 @@ pub data Act : Type 0 where
   writeDeck : ℕ → Act
   showRow : ℕ → Act
 
--- Withdrawing and bringing back, by what the seed is to be.
-abbrev pub moving : ℕ → Bool → Act
-moving k true = bringBack k
-moving k false = withdraw k
-
 -- The open areas of number k, and the deck of the present seeds.
 unfoldable pub areasOf : State → ℕ → List Box
 areasOf s k = areas (leavesOf (s .q)) (leavesOf (s .t)) (rowOf (s .rows) k .pairs)
@@ -87,3 +82,8 @@ step s act answer = decide answer (after act s) s
 -- The add answers the seed's number, and 0 beside a refusal.
 abbrev pub numberGiven : State → Answer → ℕ
 numberGiven s answer = decide answer (length (s .rows) + 1) 0
+
+-- For inner functions: withdrawing and bringing back, by what the seed is to be.
+abbrev pub moving : ℕ → Bool → Act
+moving k true = bringBack k
+moving k false = withdraw k

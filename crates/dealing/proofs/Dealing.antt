@@ -18,7 +18,7 @@ use Rattle.table.specs.Table.{rowsOf, noSeeds, Kept}
 use Rattle.table.specs.declared.Table.{Table}
 use Rattle.table.proofs.Tables.{laid-none, rows-none}
 use Rattle.deck.specs.Deck as deck
-use Rattle.deck.specs.Handed.{answerOf, rowsIn, Reads}
+use Rattle.deck.specs.Handed.{deckReadAnswer, rowsIn, Reads}
 use Rattle.deck.specs.declared.DeckRead.{DeckRead}
 use Rattle.dealing.specs.Texts.{bothRead}
 use Rattle.dealing.specs.Seeds.{seedsAnswer}
@@ -45,11 +45,11 @@ refused-dealt {a} e f =
 
 module _ (q t : Tree) (d : List ℕ) (is-q : IsTree q) (is-t : IsTree t) where
   refused-rows : {a : Answer} {g : Ground} {p : Place} → a ≡ Refused g p → a ≡ deckAnswer q t d → DealsOn q t d a noSeeds
-  refused-rows f e = record { answers = e; rows = rows-none ∙ ap (λ (x : Answer). rowsIf x (rowsIn (deck.reading d))) (sym f); kept = kept-none q t is-q is-t }
+  refused-rows f e = record { answers = e; rows = rows-none ∙ ap (λ (x : Answer). rowsIf x (rowsIn (deck.deckReading d))) (sym f); kept = kept-none q t is-q is-t }
 
   module _ {x : DeckRead} (is-x : Reads d x) where
     abbrev seeds : Answer
-    seeds = seedsAnswer (leavesOf q) (leavesOf t) 1 (rowsIn (deck.reading d))
+    seeds = seedsAnswer (leavesOf q) (leavesOf t) 1 (rowsIn (deck.deckReading d))
 
     by-layout : deckAnswer q t d ≡ unless (x .answer) seeds
     unfolding deckAnswer
@@ -69,14 +69,14 @@ module _ (q t : Tree) (d : List ℕ) (is-q : IsTree q) (is-t : IsTree t) where
       on-accepted f =
           record {
             answers = by-seeds;
-            rows = is-x .rows ∙ ap (λ (y : Answer). rowsIf y (rowsIn (deck.reading d))) (sym f);
+            rows = is-x .rows ∙ ap (λ (y : Answer). rowsIf y (rowsIn (deck.deckReading d))) (sym f);
             kept = seeds-kept q t (x .table) is-q is-t (is-x .laid) (sym e ∙ f);
           }
 
 -- ---- two texts and a deck
 
 abbrev whole : List ℕ → List ℕ → List ℕ → Deal
-whole q t d = record { answer = Accepted; q = bothRead q t .q; t = bothRead q t .t; rows = rowsIn (deck.reading d) }
+whole q t d = record { answer = Accepted; q = bothRead q t .q; t = bothRead q t .t; rows = rowsIn (deck.deckReading d) }
 
 module _ (q t d : List ℕ) {r : Dealt} {a : Answer} where
   deals-by : a ≡ dealAnswer q t d → (denied : a ≡ Accepted → ⊥) → AsDealt (refusedWith a) r → Deals q t d r
@@ -110,6 +110,6 @@ module _ (q t d : List ℕ) {x : TwoTrees} (is-x : x ≡ bothRead q t) where
           answers = f;
           tree-q = ap (λ (y : TwoTrees). y .q) is-x;
           tree-t = ap (λ (y : TwoTrees). y .t) is-x;
-          rows = on .rows ∙ ap (λ (y : Answer). rowsIf y (rowsIn (deck.reading d))) f;
+          rows = on .rows ∙ ap (λ (y : Answer). rowsIf y (rowsIn (deck.deckReading d))) f;
           kept = on .kept;
         }

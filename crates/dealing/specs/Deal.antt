@@ -11,14 +11,14 @@ use Rattle.table.specs.Rows.{Row}
 use Rattle.table.specs.Table.{rowsOf, Kept}
 use Rattle.table.specs.declared.Table.{Table}
 use Rattle.deck.specs.Deck as deck
-use Rattle.deck.specs.Handed.{answerOf, rowsIn}
+use Rattle.deck.specs.Handed.{deckReadAnswer, rowsIn}
 use Rattle.dealing.specs.Texts.{bothRead}
 use Rattle.dealing.specs.Seeds.{seedsAnswer}
 use Rattle.dealing.specs.declared.Dealt.{Dealt}
 
 -- A deck on two trees: its layout and its walk, by 5 to 8, before its seeds.
 unfoldable pub deckAnswer : Tree → Tree → List ℕ → Answer
-deckAnswer q t d = unless (answerOf (deck.reading d)) (seedsAnswer (leavesOf q) (leavesOf t) 1 (rowsIn (deck.reading d)))
+deckAnswer q t d = unless (deckReadAnswer (deck.deckReading d)) (seedsAnswer (leavesOf q) (leavesOf t) 1 (rowsIn (deck.deckReading d)))
 
 -- Its rows, and none beside a refusal.
 abbrev pub rowsIf : Answer → List Row → List Row
@@ -28,7 +28,7 @@ rowsIf (Refused g p) rows = []
 -- What dealing a deck on two trees promises that answers so and hands over the table.
 pub record DealsOn (q t : Tree) (d : List ℕ) (answer : Answer) (table : Table) : Type 0 where
   pub answers : answer ≡ deckAnswer q t d
-  pub rows : rowsOf table ≡ rowsIf answer (rowsIn (deck.reading d))
+  pub rows : rowsOf table ≡ rowsIf answer (rowsIn (deck.deckReading d))
   pub kept : Kept q t table
 
 -- What two texts and a deck give: an answer, two trees and rows.
@@ -53,7 +53,7 @@ dealAnswer q t d = unless (bothRead q t .answer) (deckAnswer (bothRead q t .q) (
 unfoldable pub dealOf : List ℕ → List ℕ → List ℕ → Deal
 dealOf q t d =
     dealBy (dealAnswer q t d)
-    (record { answer = Accepted; q = bothRead q t .q; t = bothRead q t .t; rows = rowsIn (deck.reading d) })
+    (record { answer = Accepted; q = bothRead q t .q; t = bothRead q t .t; rows = rowsIn (deck.deckReading d) })
 
 -- What is handed over is this, in a table that was kept.
 pub record AsDealt (o : Deal) (r : Dealt) : Type 0 where

@@ -1,3 +1,5 @@
+-- What a reader believes, in document 01's order.
 pub mod Texts
-pub mod Seeds
 pub mod Deal
+-- The same computed.
+pub mod Seeds

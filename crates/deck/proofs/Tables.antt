@@ -14,7 +14,7 @@ use Rattle.table.specs.Rows.{Row, noRow, presentRows, pairsOfRow}
 use Rattle.table.specs.Table.{between, nodesOf, pairsAt, rowAt, rowsOf, Laid}
 use Rattle.table.specs.declared.Table.{Table}
 use Rattle.deck.specs.Deck.{chainsOf}
-use Rattle.deck.specs.Walking.{padded}
+use Rattle.deck.specs.inner.Walking.{padded}
 use Rattle.deck.proofs.Lists.{map-append, flatten-append, flatten-more, length-padded, boundsFrom, length-bounds, tab-elements}
 
 -- The nodes of some seeds' pairs in one tree, one seed after another, and where each seed begins; zeros from their end on.

@@ -20,7 +20,7 @@ use Rattle.tree.specs.Reading.{Spells, leavesOf, treeOf}
 use Rattle.tree.specs.declared.Tree.{Tree}
 use Rattle.tree.proofs.Trees.{tree-nested}
 use Rattle.judge.proofs.Grounds.{accepts-seeds}
-use Rattle.table.specs.Rows.{Row, pairCount, presentRows, inRange, AllHold}
+use Rattle.table.specs.Rows.{Row, pairsInAll, presentRows, inRange, AllHold}
 use Rattle.table.specs.Table.{rowsOf}
 use Rattle.table.proofs.Tables.{rows-length, rows-count}
 use Rattle.deck.specs.Deck as deck
@@ -85,12 +85,12 @@ present-few (r ∷ rs) = go (present-few rs) (r .present)
     go rest true = omega (arith, rest)
     go rest false = omega (arith, rest)
 
-present-pairs : (rows : List Row) → length (flatten (chainsOf (presentRows rows))) ≤ pairCount rows
-unfolding presentRows pairCount flatten
+present-pairs : (rows : List Row) → length (flatten (chainsOf (presentRows rows))) ≤ pairsInAll rows
+unfolding presentRows pairsInAll flatten
 present-pairs [] = omega arith
 present-pairs (r ∷ rs) = go (present-pairs rs) (r .present)
   where
-    go : length (flatten (chainsOf (presentRows rs))) ≤ pairCount rs → (b : Bool) → length (flatten (chainsOf (cond b (r ∷ presentRows rs) (presentRows rs)))) ≤ length (r .pairs) + pairCount rs
+    go : length (flatten (chainsOf (presentRows rs))) ≤ pairsInAll rs → (b : Bool) → length (flatten (chainsOf (cond b (r ∷ presentRows rs) (presentRows rs)))) ≤ length (r .pairs) + pairsInAll rs
     go rest true = omega (arith, rest, length-append (r .pairs) (flatten (chainsOf (presentRows rs))))
     go rest false = omega (arith, rest)
 
@@ -101,7 +101,7 @@ module _ (s : Session) (h : Sound s) where
   tree-t : Nested (leavesOf (s .t))
   tree-t = tree-nested (s .t) (h .kept .is-t)
 
-  deck-read : deck.reading (plainOf (presentRows (rowsOf (s .table)))) ≡ deck.Reading.accepted (presentRows (rowsOf (s .table)))
+  deck-read : deck.deckReading (plainOf (presentRows (rowsOf (s .table)))) ≡ deck.DeckReading.deckAccepted (presentRows (rowsOf (s .table)))
   deck-read =
       let rows : List Row = rowsOf (s .table) in
       read-plain (presentRows rows)
@@ -143,7 +143,7 @@ module _ {o : Outcome} {s : Session} {h : List Event} (reached : Reached o s h) 
       )
 
 -- An accepted deck that is opened and written is put in plain form.
-pub opened-then-written : (q t d : List ℕ) {s : Session} → Opens (deckOpening q t d) Accepted s → {before after : List ℕ} {w : Written} → Writes (view s) before after w → w .answer ≡ Accepted → Wrote (plainOf (rowsIn (deck.reading d))) before after w
+pub opened-then-written : (q t d : List ℕ) {s : Session} → Opens (deckOpening q t d) Accepted s → {before after : List ℕ} {w : Written} → Writes (view s) before after w → w .answer ≡ Accepted → Wrote (plainOf (rowsIn (deck.deckReading d))) before after w
 unfolding stateOf
 opened-then-written q t d {s} o {before} {after} {w} x ok =
     subst (λ (rows : List Row). Wrote (plainOf rows) before after w)

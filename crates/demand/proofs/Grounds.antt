@@ -13,13 +13,14 @@ use Rattle.answer.specs.declared.Ground.the-variants.{NumberNotGiven, PresenceA
 use Rattle.answer.specs.declared.Place.the-variants.{Seed, Nothing}
 use Rattle.answer.specs.declared.Answer.{Answer}
 use Rattle.answer.specs.declared.Answer.the-variants.{Accepted}
-use Rattle.answer.proofs.Tells.{Tells, tells-le, tells-lt, tells-eq, tells-and, tells-not}
+use Rattle.answer.specs.Tells.{Tells}
+use Rattle.answer.proofs.Tells.{tells-le, tells-lt, tells-eq, tells-and, tells-not}
 use Rattle.answer.proofs.Grounds.{ground, in-order, regroup, guard, guards}
 use Rattle.tree.specs.Nested.{Nested}
 use Rattle.tree.specs.Reading.{leavesOf}
 use Rattle.seed.specs.declared.Pair.{Pair}
 use Rattle.judge.proofs.Grounds.{pairs-decide}
-use Rattle.table.specs.Rows.{givenOut, rowOf, pairCount, inRange}
+use Rattle.table.specs.Rows.{givenOut, rowOf, pairsInAll, inRange}
 use Rattle.adding.specs.Adding.{limitAnswer, nextAnswer}
 use Rattle.optimum.proofs.Booleans.{T-eq}
 use Rattle.best.specs.Best.{scratchNeeded}
@@ -61,11 +62,11 @@ module _ (s : State) where
     pub add-decides : (ps : List Pair) (z : ℤ) → Decides (AddSays s ps z) (addAnswer s ps z)
     unfolding nextAnswer limitAnswer
     add-decides ps z =
-        subst (Decides (AddSays s ps z)) (sym (regroup (limitAnswer (length (s .rows)) (pairCount (s .rows)) (length ps) z) _ _))
+        subst (Decides (AddSays s ps z)) (sym (regroup (limitAnswer (length (s .rows)) (pairsInAll (s .rows)) (length ps) z) _ _))
         (guards _ (tells-range z) ScoreRange (Seed (nextNumber s)) _ _
         (guards _ (tells-eq (length ps) 0) NoPairs (Seed (nextNumber s)) _ _
         (guards _ (tells-le 64 (length (s .rows))) SeedLimit (Seed (nextNumber s)) _ _
-        (guards _ (tells-lt 1024 (pairCount (s .rows) + length ps)) PairLimit (Seed (nextNumber s)) Accepted _
+        (guards _ (tells-lt 1024 (pairsInAll (s .rows) + length ps)) PairLimit (Seed (nextNumber s)) Accepted _
         (in-order _ (pairs-decide tree-q tree-t ps (nextNumber s))
         count-decides)))))
 

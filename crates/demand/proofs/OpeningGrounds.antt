@@ -22,11 +22,11 @@ use Rattle.tree.proofs.Grounds.{text-decides}
 use Rattle.tree.proofs.Trees.{tree-nested}
 use Rattle.judge.specs.Judge.{judgeOf}
 use Rattle.deck.specs.Deck as deck
-use Rattle.table.specs.Rows.{Row, newRow, pairCount, inRange}
+use Rattle.table.specs.Rows.{Row, newRow, pairsInAll, inRange}
 use Rattle.table.proofs.Tables.{count-more}
 use Rattle.adding.specs.Adding.{limitAnswer, nextAnswer}
 use Rattle.deck.specs.Deck.{chainsOf}
-use Rattle.deck.specs.Handed.{answerOf, rowsIn}
+use Rattle.deck.specs.Handed.{deckReadAnswer, rowsIn}
 use Rattle.deck.proofs.Grounds as decks
 use Rattle.deck.proofs.Accepted.{source, storable}
 use Rattle.chain.specs.State.{State, countAnswer}
@@ -42,33 +42,33 @@ use Rattle.dealing.proofs.BothRead.{are-trees}
 use Rattle.demand.proofs.Grounds.{add-decides}
 
 -- The two texts.
-of-t : {J : Said → Type 0} (x : tree.Reading) → Decides J (tree.answerOf x) → Decides (OfT J) (inT (tree.answerOf x))
-of-t {J} (tree.Reading.accepted r) d = record { judged = none (d .judged); decided = go }
+of-t : {J : Said → Type 0} (x : tree.Reading) → Decides J (tree.textAnswer x) → Decides (OfT J) (inT (tree.textAnswer x))
+of-t {J} (tree.Reading.textAccepted r) d = record { judged = none (d .judged); decided = go }
   where
     go : {x : Said} → OfT J x → x ≡ accepted
     go (byte h) = let e = d .decided h in clash (cc)
     go (none h) = refl
-of-t {J} (tree.Reading.refused g k) d = record { judged = byte (d .judged); decided = go }
+of-t {J} (tree.Reading.textRefused g k) d = record { judged = byte (d .judged); decided = go }
   where
     go : {x : Said} → OfT J x → x ≡ refused (numberOf g) (ByteInT k)
     go (byte h) = let e = d .decided h in cc
     go (none h) = let e = d .decided h in clash (cc)
 
-both-answer : (x y : tree.Reading) → unless (tree.answerOf x) (inT (tree.answerOf y)) ≡ bothOf x y .answer
-both-answer (tree.Reading.refused g k) y = refl
-both-answer (tree.Reading.accepted r) (tree.Reading.refused g k) = refl
-both-answer (tree.Reading.accepted r) (tree.Reading.accepted p) = refl
+both-answer : (x y : tree.Reading) → unless (tree.textAnswer x) (inT (tree.textAnswer y)) ≡ bothOf x y .answer
+both-answer (tree.Reading.textRefused g k) y = refl
+both-answer (tree.Reading.textAccepted r) (tree.Reading.textRefused g k) = refl
+both-answer (tree.Reading.textAccepted r) (tree.Reading.textAccepted p) = refl
 
 pub open-decides : (q t : List ℕ) → Decides (OpenSays q t) (opening q t .answer)
 unfolding opening bothRead
 open-decides q t =
     subst (Decides (OpenSays q t)) (both-answer (tree.reading q) (tree.reading t))
-    (in-order (tree.answerOf (tree.reading q)) (text-decides q) (of-t (tree.reading t) (text-decides t)))
+    (in-order (tree.textAnswer (tree.reading q)) (text-decides q) (of-t (tree.reading t) (text-decides t)))
 
 -- The seeds of a deck that are still to be added fit: grounds 12, 13, 14 and 20 never hold of them.
 record Fits (s : State) (rows : List Row) : Type 0 where
   seeds : length (s .rows) + length rows ≤ 64
-  pairs : pairCount (s .rows) + length (flatten (chainsOf rows)) ≤ 1024
+  pairs : pairsInAll (s .rows) + length (flatten (chainsOf rows)) ≤ 1024
   some : (i : ℕ) → i < length rows → 0 < length (getD (chainsOf rows) i [])
   count : s .changes ≤ length (s .rows)
 
@@ -91,7 +91,7 @@ module _ (s : State) (row : Row) (rows : List Row) (fits : Fits s (row ∷ rows)
       rw (
         ne-eqb (length (row .pairs)) 0 (λ e. absurd (omega (arith, fits .some 0 (omega arith), e))),
         lt-leb 64 (length (s .rows)) (omega (arith, fits .seeds)),
-        le-ltb 1024 (pairCount (s .rows) + length (row .pairs)) (omega (arith, fits .pairs, length-append (row .pairs) (flatten (chainsOf rows)))),
+        le-ltb 1024 (pairsInAll (s .rows) + length (row .pairs)) (omega (arith, fits .pairs, length-append (row .pairs) (flatten (chainsOf rows)))),
         lt-leb 1000000 (s .changes) (omega (arith, fits .count, fits .seeds)),
       )
       (go (not (inRange (row .score))) (judgeOf (leavesOf (s .q)) (leavesOf (s .t)) (row .pairs) (nextNumber s)))
@@ -112,13 +112,13 @@ seeds-decide (row ∷ rows) s tree-q tree-t fits =
     (subst (λ (n : ℕ). Decides (SeedsSay next rows) (seedsAnswer (leavesOf (s .q)) (leavesOf (s .t)) n rows)) number (seeds-decide rows next tree-q tree-t (fits-next s row rows fits)))
 
 -- The deck.
-deck-fits : (q t d : List ℕ) → Fits (opening q t .state) (rowsIn (deck.reading d))
-unfolding opening pairCount flatten
-deck-fits q t d = go (deck.reading d) refl
+deck-fits : (q t d : List ℕ) → Fits (opening q t .state) (rowsIn (deck.deckReading d))
+unfolding opening pairsInAll flatten
+deck-fits q t d = go (deck.deckReading d) refl
   where
-    go : (x : deck.Reading) → deck.reading d ≡ x → Fits (opening q t .state) (rowsIn x)
-    go (deck.Reading.refused g p) e = record { seeds = omega arith; pairs = omega arith; some = λ i l. absurd (omega arith); count = omega arith }
-    go (deck.Reading.accepted rows) e =
+    go : (x : deck.DeckReading) → deck.deckReading d ≡ x → Fits (opening q t .state) (rowsIn x)
+    go (deck.DeckReading.deckRefused g p) e = record { seeds = omega arith; pairs = omega arith; some = λ i l. absurd (omega arith); count = omega arith }
+    go (deck.DeckReading.deckAccepted rows) e =
         let w = storable d rows (source d rows e) in
         let n = length-map rows (λ (r : Row). r .pairs) in
         record { seeds = omega (arith, w .seeds); pairs = omega (arith, w .pairs); some = λ i l. w .some i (omega arith); count = omega arith }
@@ -132,8 +132,8 @@ unfolding dealAnswer deckAnswer opening
 by-parts q t d =
     let trees = are-trees q t (bothRead q t) refl in
     in-order (bothRead q t .answer) (open-decides q t)
-    (in-order (answerOf (deck.reading d)) (decks.deck-decides d)
-    (seeds-decide (rowsIn (deck.reading d)) (opening q t .state) (tree-nested _ (trees .0)) (tree-nested _ (trees .1)) (deck-fits q t d)))
+    (in-order (deckReadAnswer (deck.deckReading d)) (decks.deck-decides d)
+    (seeds-decide (rowsIn (deck.deckReading d)) (opening q t .state) (tree-nested _ (trees .0)) (tree-nested _ (trees .1)) (deck-fits q t d)))
 
 pub open-deck-decides : (q t d : List ℕ) → Decides (OpenDeckSays q t d) (deckOpening q t d .answer)
 unfolding deckOpening dealOf

@@ -10,7 +10,7 @@ use Rattle.answer.specs.declared.Answer.the-variants.{Accepted, Refused}
 use Rattle.answer.proofs.Denied.{denies}
 use Rattle.tree.specs.Run.{Run, size, lefts}
 use Rattle.tree.specs.Reading.{Spells, Reading, reading, leavesOf, treeOf, single}
-use Rattle.tree.specs.Reading.Reading.{accepted, refused}
+use Rattle.tree.specs.Reading.Reading.{textAccepted, textRefused}
 use Rattle.tree.proofs.Grounds.{accepted-exactly}
 use Rattle.tree.proofs.Trees.{accepted-nodes, tree-left}
 use Rattle.table.specs.Rows.{Row}
@@ -37,9 +37,9 @@ both-spelled {q} {t} {r} {p} w v = ap₂ bothOf (accepted-exactly q r .1 w) (acc
 
 -- A refused opening hands over the trees of `.` and `.`, without rows.
 both-refused : (x y : Reading) → (bothOf x y .answer ≡ Accepted → ⊥) → startWith (bothOf x y .q) (bothOf x y .t) [] ≡ startWith (treeOf single) (treeOf single) []
-both-refused (refused g k) y denied = refl
-both-refused (accepted r) (refused g k) denied = refl
-both-refused (accepted r) (accepted p) denied = absurd (denied refl)
+both-refused (textRefused g k) y denied = refl
+both-refused (textAccepted r) (textRefused g k) denied = refl
+both-refused (textAccepted r) (textAccepted p) denied = absurd (denied refl)
 
 abbrev stateFrom : Deal → State
 stateFrom x = startWith (x .q) (x .t) (x .rows)
@@ -53,14 +53,14 @@ deal-refused Accepted whole e denied = absurd (denied e)
 deal-refused (Refused g p) whole e denied = refl
 
 -- An accepted deck gives its rows, on the trees of the texts.
-pub deck-state : (q t d : List ℕ) → deckOpening q t d .answer ≡ Accepted → deckOpening q t d .state ≡ startWith (bothRead q t .q) (bothRead q t .t) (rowsIn (deck.reading d))
+pub deck-state : (q t d : List ℕ) → deckOpening q t d .answer ≡ Accepted → deckOpening q t d .state ≡ startWith (bothRead q t .q) (bothRead q t .t) (rowsIn (deck.deckReading d))
 unfolding deckOpening dealOf
 deck-state q t d ok = ap stateFrom (deal-accepted (dealAnswer q t d) _ ok)
 
 pub opened-state : {o : Outcome} {r p : Run} {rows : List Row} → OpenedOn o r p rows → o .state ≡ startWith (treeOf r) (treeOf p) rows
 unfolding opening deckOpening dealOf bothRead
 opened-state (texts q t w v) = ap (λ (x : TwoTrees). startWith (x .q) (x .t) []) (both-spelled w v)
-opened-state (deck q t d w v ok) = deck-state q t d ok ∙ ap (λ (x : TwoTrees). startWith (x .q) (x .t) (rowsIn (deck.reading d))) (both-spelled w v)
+opened-state (deck q t d w v ok) = deck-state q t d ok ∙ ap (λ (x : TwoTrees). startWith (x .q) (x .t) (rowsIn (deck.deckReading d))) (both-spelled w v)
 opened-state (texts-refused q t denied) = both-refused (reading q) (reading t) denied
 opened-state (deck-refused q t d denied) = deal-refused (dealAnswer q t d) _ refl denied
 
@@ -72,9 +72,9 @@ opened-few (deck-refused q t d denied) = (omega arith, omega arith)
 
 -- Every opening is one of these.
 both-accepted : (q t : List ℕ) (x y : Reading) → reading q ≡ x → reading t ≡ y → bothOf x y .answer ≡ Accepted → (r : Run) × (p : Run) × (Spells r q × Spells p t)
-both-accepted q t (accepted r) (accepted p) e f ok = (r, p, (accepted-exactly q r .0 e, accepted-exactly t p .0 f))
-both-accepted q t (accepted r) (refused g k) e f ok = absurd (denies {x = Refused g (ByteInT k)} refl ok)
-both-accepted q t (refused g k) y e f ok = absurd (denies {x = Refused g (ByteInQ k)} refl ok)
+both-accepted q t (textAccepted r) (textAccepted p) e f ok = (r, p, (accepted-exactly q r .0 e, accepted-exactly t p .0 f))
+both-accepted q t (textAccepted r) (textRefused g k) e f ok = absurd (denies {x = Refused g (ByteInT k)} refl ok)
+both-accepted q t (textRefused g k) y e f ok = absurd (denies {x = Refused g (ByteInQ k)} refl ok)
 
 abbrev OnSome : Outcome → Type 0
 OnSome o = (r : Run) × (p : Run) × (rows : List Row) × OpenedOn o r p rows
@@ -96,5 +96,5 @@ unfolding deckOpening dealOf dealAnswer bothRead
 every-deck-opening q t d = go (deckOpening q t d .answer) refl
   where
     go : (a : Answer) → deckOpening q t d .answer ≡ a → OnSome (deckOpening q t d)
-    go Accepted e = let w = both-accepted q t (reading q) (reading t) refl refl (texts-accepted (bothRead q t .answer) _ _ e) in (w .0, w .1, rowsIn (deck.reading d), deck q t d (w .2 .0) (w .2 .1) e)
+    go Accepted e = let w = both-accepted q t (reading q) (reading t) refl refl (texts-accepted (bothRead q t .answer) _ _ e) in (w .0, w .1, rowsIn (deck.deckReading d), deck q t d (w .2 .0) (w .2 .1) e)
     go (Refused g p) e = (single, single, [], deck-refused q t d (denies e))

@@ -18,7 +18,7 @@ use Rattle.table.specs.Rows.{Row, rowOf}
 use Rattle.adding.specs.Adding.{Addable}
 use Rattle.optimum.specs.Chain.{Seeds}
 use Rattle.best.specs.Best.{seedsOf}
-use Rattle.deck.specs.Deck.{reading}
+use Rattle.deck.specs.Deck.{deckReading}
 use Rattle.deck.specs.Handed.{rowsIn}
 use Rattle.chain.specs.State.{State}
 use Rattle.chain.specs.Opening.{Outcome, startWith, opening, deckOpening}
@@ -46,7 +46,7 @@ pub record ListsAreas (s : State) (k : ℕ) (before after : List ℕ) (r : Liste
 -- opening is as one on `.` and `.` without a deck.
 pub data OpenedOn : Outcome → Run → Run → List Row → Type 0 where
   texts : (q t : List ℕ) {r p : Run} → Spells r q → Spells p t → OpenedOn (opening q t) r p []
-  deck : (q t d : List ℕ) {r p : Run} → Spells r q → Spells p t → deckOpening q t d .answer ≡ Accepted → OpenedOn (deckOpening q t d) r p (rowsIn (reading d))
+  deck : (q t d : List ℕ) {r p : Run} → Spells r q → Spells p t → deckOpening q t d .answer ≡ Accepted → OpenedOn (deckOpening q t d) r p (rowsIn (deckReading d))
   texts-refused : (q t : List ℕ) → (opening q t .answer ≡ Accepted → ⊥) → OpenedOn (opening q t) single single []
   deck-refused : (q t d : List ℕ) → (deckOpening q t d .answer ≡ Accepted → ⊥) → OpenedOn (deckOpening q t d) single single []
 

@@ -58,8 +58,8 @@ numbersFrom n (false ∷ bs) = numbersFrom (suc n) bs
 abbrev pub answered : State → Best
 answered s = bestBy (grounds s (bestChain 4096)) (keyIn s)
 
-abbrev pub chained : State → List ℕ
-chained s = answered s .total ∷ numbersFrom 1 (answered s .chain)
+abbrev pub totalAndChain : State → List ℕ
+totalAndChain s = answered s .total ∷ numbersFrom 1 (answered s .chain)
 
 -- The five seeds added; then seed 4 rescored to 4; then 2 withdrawn.
 abbrev pub five : State
@@ -93,14 +93,14 @@ starred =
     ∷ lists (partOf B 0 0) (bytes ".")
     ∷ lists (partOf A 4 4) (bytes ".")
     ∷ lists (partOf B 2 3) (bytes "(.)")
-    ∷ lists (chained onAB) (0 ∷ [])
-    ∷ lists (chained (doing onAB (add (one 2 1) (pos 0)))) (0 ∷ [])
-    ∷ lists (chained (doing onAB (add (one 2 1) (negsuc 0)))) (0 ∷ [])
-    ∷ lists (chained five) (6 ∷ 1 ∷ 2 ∷ 3 ∷ [])
+    ∷ lists (totalAndChain onAB) (0 ∷ [])
+    ∷ lists (totalAndChain (doing onAB (add (one 2 1) (pos 0)))) (0 ∷ [])
+    ∷ lists (totalAndChain (doing onAB (add (one 2 1) (negsuc 0)))) (0 ∷ [])
+    ∷ lists (totalAndChain five) (6 ∷ 1 ∷ 2 ∷ 3 ∷ [])
     -- 2 3 4 ties: without seed 1 it is the best chain.
-    ∷ lists (chained (doing five (withdraw 1))) (6 ∷ 2 ∷ 3 ∷ 4 ∷ [])
-    ∷ lists (chained fourRescored) (7 ∷ 2 ∷ 3 ∷ 4 ∷ [])
-    ∷ lists (chained twoWithdrawn) (5 ∷ 3 ∷ 4 ∷ [])
+    ∷ lists (totalAndChain (doing five (withdraw 1))) (6 ∷ 2 ∷ 3 ∷ 4 ∷ [])
+    ∷ lists (totalAndChain fourRescored) (7 ∷ 2 ∷ 3 ∷ 4 ∷ [])
+    ∷ lists (totalAndChain twoWithdrawn) (5 ∷ 3 ∷ 4 ∷ [])
     ∷ []
 
 -- Each holds: the two are the same.

@@ -15,9 +15,9 @@ use Rattle.tree.specs.Reading.{leavesOf}
 use Rattle.tree.specs.Grounds.{TextSays}
 use Rattle.judge.specs.Grounds.{PairsSay}
 use Rattle.seed.specs.declared.Pair.{Pair}
-use Rattle.table.specs.Rows.{Row, pairCount, rowOf}
+use Rattle.table.specs.Rows.{Row, pairsInAll, rowOf}
 use Rattle.best.specs.Best.{scratchNeeded}
-use Rattle.deck.specs.Deck.{reading}
+use Rattle.deck.specs.Deck.{deckReading}
 use Rattle.deck.specs.Handed.{rowsIn}
 use Rattle.deck.specs.Grounds.{DeckSays}
 use Rattle.chain.specs.State.{State}
@@ -50,7 +50,7 @@ AddSays s ps z =
     GivenIf (¬ InRange z) 11 (Seed (nextNumber s))
     then GivenIf (length ps ≡ 0) 12 (Seed (nextNumber s))
     then GivenIf (64 ≤ length (s .rows)) 13 (Seed (nextNumber s))
-    then GivenIf (1024 < pairCount (s .rows) + length ps) 14 (Seed (nextNumber s))
+    then GivenIf (1024 < pairsInAll (s .rows) + length ps) 14 (Seed (nextNumber s))
     then PairsSay (leavesOf (s .q)) (leavesOf (s .t)) ps (nextNumber s)
     then CountSays s
 
@@ -96,4 +96,4 @@ abbrev pub OpenDeckSays : List ℕ → List ℕ → List ℕ → Said → Type 0
 OpenDeckSays q t d =
     OpenSays q t
     then DeckSays d
-    then SeedsSay (opening q t .state) (rowsIn (reading d))
+    then SeedsSay (opening q t .state) (rowsIn (deckReading d))

@@ -1,3 +1,4 @@
+-- What a reader believes, in document 01's order.
 pub mod History
 pub mod Reached
 pub mod Grounds

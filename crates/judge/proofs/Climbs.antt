@@ -1,4 +1,4 @@
--- Passing the nodes between two listed ones: which of them are in the span, and which are unpaired border nodes. Assumes nothing.
+-- Passing the nodes between two listed ones: which of them are in the span, and which are unpaired border nodes.
 use mathlib.Core.Path.{_≡_, refl, sym, _∙_}
 use mathlib.Core.Bool.{Bool, true, false, not, _&&_, _||_, true≢false, false≢true}
 use mathlib.Core.Logic.{_⊎_, inl, inr}
@@ -19,9 +19,9 @@ use Rattle.seed.proofs.Tells.{tells-in, tells-below}
 use Rattle.seed.proofs.Sides.{tells-spans}
 use Rattle.seed.proofs.Search.{least}
 use Rattle.judge.proofs.JudgeSteps.{last-node-at, spans-in, paired-in, paired-by, walk-start, walk-no}
-use Rattle.judge.specs.Steps.{Cut, UnderLast, Joined, Joins, Reaching, Past, Passing, Climbing, Passed}
-use Rattle.judge.specs.Steps.Joined.{whole, broken}
-use Rattle.judge.specs.Steps.Passed.{fine, bare}
+use Rattle.judge.specs.inner.Steps.{Cut, UnderLast, Joined, Joins, Reaching, Past, Passing, Climbing, Passed}
+use Rattle.judge.specs.inner.Steps.Joined.{whole, broken}
+use Rattle.judge.specs.inner.Steps.Passed.{fine, bare}
 use Rattle.judge.proofs.Rising.{at-in, in-at, ups-most}
 use Rattle.judge.proofs.Tops.{never, tops-skip, tops-put}
 

@@ -1,4 +1,4 @@
--- Document 01's starred lists of pairs, and lists at the other grounds, computed from the definitions. Assumes nothing.
+-- Document 01's starred lists of pairs, and lists at the other grounds, computed from the definitions.
 use mathlib.Core.Path.{_≡_, refl}
 use mathlib.Core.List.{List, [], _∷_, map}
 use Prim.Native.Nat.{ℕ}
@@ -7,7 +7,7 @@ use Rattle.answer.specs.Answer.Said.{accepted, refused}
 use Rattle.answer.specs.declared.Place.the-variants as place
 use Rattle.tree.specs.Nested.{leaf}
 use Rattle.seed.specs.Pairs.{pairOf}
-use Rattle.seed.specs.Tests.{every, some, everyBelow, above, inside, nodeIn, nodesIn, risesFrom, rises, alikeAt, alikeTo, alike, rootOf, rooted, spans, children, paired, bordered}
+use Rattle.seed.specs.Tests.{every, some, everyBelow, above, inSubtree, nodeIn, nodesIn, risesFrom, rises, alikeAt, alikeTo, alike, rootOf, rooted, spans, children, paired, bordered}
 use Rattle.judge.specs.Judge.{judgeOf}
 use Rattle.seed.specs.declared.Pair.{Pair}
 use Rattle.seed.proofs.Examples.{A, B}
@@ -38,5 +38,5 @@ rows =
     ∷ []
 
 judgements : map (λ (r : Row). said (judgeOf A B (r .pairs) 1)) rows ≡ map (λ (r : Row). r .says) rows
-unfolding row refusal rows leaf every some everyBelow above inside nodeIn nodesIn risesFrom rises alikeAt alikeTo alike rootOf rooted spans children paired bordered judgeOf
+unfolding row refusal rows leaf every some everyBelow above inSubtree nodeIn nodesIn risesFrom rises alikeAt alikeTo alike rootOf rooted spans children paired bordered judgeOf
 judgements = refl

@@ -11,7 +11,8 @@ use Rattle.answer.specs.declared.Ground.the-variants.{OutsideTree, NotRising, A
 use Rattle.answer.specs.declared.Place.the-variants as place
 use Rattle.answer.specs.declared.Answer.the-variants.{Accepted}
 use Rattle.answer.proofs.Given.{not-given}
-use Rattle.answer.proofs.Tells.{Tells, tells-and, tells-not}
+use Rattle.answer.specs.Tells.{Tells}
+use Rattle.answer.proofs.Tells.{tells-and, tells-not}
 use Rattle.answer.proofs.Grounds.{ground, guard}
 use Rattle.tree.specs.Nested.{Nested}
 use Rattle.seed.specs.Seed.{Seed, qs, ts}

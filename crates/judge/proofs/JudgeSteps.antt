@@ -1,4 +1,4 @@
--- What each answer of the judge's code says of its tests. Assumes nothing.
+-- What each answer of the judge's code says of its tests.
 use mathlib.Core.Path.{_≡_, refl, ap, _∙_}
 use mathlib.Core.Bool.{Bool, true, false, _&&_, _||_}
 use mathlib.Core.List.{List, [], _∷_}

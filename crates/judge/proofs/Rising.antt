@@ -1,4 +1,4 @@
--- Rising lists by their places, and where a number cuts them. Assumes nothing.
+-- Rising lists by their places, and where a number cuts them.
 use mathlib.Core.Path.{_≡_, refl, sym, ap}
 use mathlib.Core.Bool.{true}
 use mathlib.Core.Logic.{inl, inr}
@@ -12,7 +12,7 @@ use Rattle.seed.specs.Seed.{_∈_, Rising}
 use Rattle.seed.specs.Tests.{rises}
 use Rattle.seed.proofs.Trees.{own}
 use Rattle.seed.proofs.SeedTest.{tells-rises}
-use Rattle.judge.specs.Steps.{Ups, Cut}
+use Rattle.judge.specs.inner.Steps.{Ups, Cut}
 
 -- What stands at a place is one of the list, and each of the list stands at a place.
 pub at-in : (xs : List ℕ) (k : ℕ) → k < length xs → getD xs k 0 ∈ xs

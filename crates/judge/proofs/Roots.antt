@@ -14,11 +14,12 @@ use Rattle.seed.specs.Tests.{every, nodeIn, nodesIn, rises, rootOf, rooted}
 use Rattle.seed.specs.Pairs.{pairOf, pairsOf}
 use Rattle.seed.specs.declared.Pair.{Pair}
 use Rattle.seed.proofs.Trees.{own}
-use Rattle.answer.proofs.Tells.{Tells, tells-not-false, tells-le, tells-lt, tells-eq, tells-as, tells-and, tells-or}
+use Rattle.answer.specs.Tells.{Tells}
+use Rattle.answer.proofs.Tells.{tells-not-false, tells-le, tells-lt, tells-eq, tells-as, tells-and, tells-or}
 use Rattle.seed.proofs.Sides.{tells-above}
 use Rattle.seed.proofs.PairLists.{count-first, last-pair-at, nodes-first, nodes-second, cut-first, cut-second}
 use Rattle.judge.proofs.JudgeSteps.{last-node-at}
-use Rattle.judge.specs.Steps.{Ups, Risen, BothUnderLast, UnderLast}
+use Rattle.judge.specs.inner.Steps.{Ups, Risen, BothUnderLast, UnderLast}
 use Rattle.judge.proofs.Rising.{ups-most, rises-ups}
 use Rattle.judge.proofs.Rows.{tells-one, every-at}
 

@@ -13,10 +13,11 @@ use Rattle.seed.specs.Tests.{every, alikeAt, alikeTo}
 use Rattle.seed.specs.Pairs.{pairOf, pairsOf}
 use Rattle.seed.specs.declared.Pair.{Pair}
 use Rattle.seed.proofs.Trees.{own, nest}
-use Rattle.answer.proofs.Tells.{Tells, tells-as, tells-and, tells-same}
+use Rattle.answer.specs.Tells.{Tells}
+use Rattle.answer.proofs.Tells.{tells-as, tells-and, tells-same}
 use Rattle.seed.proofs.Sides.{tells-above}
 use Rattle.seed.proofs.PairLists.{count-first}
-use Rattle.judge.specs.Steps.{Ups, Cut, Rows, Risen}
+use Rattle.judge.specs.inner.Steps.{Ups, Cut, Rows, Risen}
 use Rattle.judge.proofs.Rising.{ups-most, rises-ups, cut-at, cut-early}
 
 -- Two tests that tell the same are the same.

@@ -13,8 +13,8 @@ use Rattle.seed.specs.Tests.{children}
 use Rattle.seed.proofs.Trees.{own, nest, self, within}
 use Rattle.answer.proofs.Tells.{tells-not-false}
 use Rattle.judge.proofs.JudgeSteps.{Walked, walk-start, walk-end, walk-no, walk-on}
-use Rattle.judge.specs.Steps.{Ups, Cut, Tops, Joined}
-use Rattle.judge.specs.Steps.Joined.{whole}
+use Rattle.judge.specs.inner.Steps.{Ups, Cut, Tops, Joined}
+use Rattle.judge.specs.inner.Steps.Joined.{whole}
 use Rattle.judge.proofs.Rising.{ups-most}
 
 -- A test that cannot be true is false.

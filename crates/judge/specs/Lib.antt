@@ -1,3 +1,6 @@
+-- What a reader believes, in document 01's order.
 pub mod Grounds
+-- The same computed.
 pub mod Judge
-pub mod Steps
+-- What only the contracts of inner functions cite.
+pub mod inner

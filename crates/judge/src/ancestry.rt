@@ -8,7 +8,7 @@ ghost use lib.ListN.{length, getD};
 ghost use Rattle.tree.specs.Nested.{leaf};
 ghost use Rattle.seed.specs.Tests as test;
 ghost use Rattle.seed.specs.Pairs.{pairsOf};
-ghost use Rattle.judge.specs.Steps.{Cut, Ups, Rows, Risen};
+ghost use Rattle.judge.specs.inner.Steps.{Cut, Ups, Rows, Risen};
 
 // Where the row of the nodes below the node at a place begins. A node of the row is passed together with its own row.
 fn row_start(l: &[u8], xs: &[u8], rows: &[u8], place: usize) -> usize

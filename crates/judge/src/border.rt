@@ -6,7 +6,7 @@ ghost use mathlib.Core.Bool.{_||_};
 ghost use Prim.Native.Nat.{_<_, _≤_};
 ghost use lib.ListN.{length};
 ghost use Rattle.seed.specs.Tests as test;
-ghost use Rattle.judge.specs.Steps.{Cut, Ups, UnderLast, Joins, Reaching, Passing, Climbing, Passed};
+ghost use Rattle.judge.specs.inner.Steps.{Cut, Ups, UnderLast, Joins, Reaching, Passing, Climbing, Passed};
 
 // How many of the first `count` tops lie before a number: the others are below a node whose subtree starts there.
 fn kept(tops: &[u8], count: usize, low: usize) -> usize

@@ -20,7 +20,7 @@ ghost use Rattle.seed.specs.Seed as seed;
 ghost use Rattle.seed.specs.Pairs.{pairsOf};
 ghost use Rattle.seed.specs.Tests as test;
 ghost use Rattle.judge.specs.Judge.{judgeOf};
-ghost use Rattle.judge.specs.Steps.{Risen, BothUnderLast};
+ghost use Rattle.judge.specs.inner.Steps.{Risen, BothUnderLast};
 
 // Whether each pair joins a node below n and a node below m.
 fn nodes_in(n: usize, m: usize, qs: &[u8], ts: &[u8]) -> bool

@@ -22,7 +22,7 @@ use Rattle.tree.specs.Reading.{leavesOf}
 use Rattle.seed.specs.Pairs.{pairOf, pairsOf}
 use Rattle.seed.specs.declared.Pair.{Pair}
 use Rattle.answer.specs.Answer.{given, unless}
-use Rattle.table.specs.Rows.{pairCount, inRange}
+use Rattle.table.specs.Rows.{pairsInAll, inRange}
 use Rattle.judge.specs.Judge.{judgeOf}
 use Rattle.adding.specs.Adding.{limitAnswer, nextAnswer}
 use Rattle.chain.specs.State.{State, countAnswer}
@@ -30,20 +30,20 @@ use Rattle.chain.specs.Acts.{add, addAnswer, grounds, step}
 use Rattle.chain.specs.View.{view, Does}
 use Rattle.chain.specs.declared.Session.{Session}
 use Rattle.chain.proofs.Judges.{add-passed}
-use Rattle.lent.specs.Listing.{noNodes, withPair, withPairs, heldIn, Filled}
-use Rattle.lent.specs.declared.listing.Nodes.{Nodes}
+use Rattle.lent.specs.inner.Listing.{noNodes, withOneMore, withPairs, heldIn, NodesFit}
+use Rattle.lent.specs.declared.listing.NodeLists.{NodeLists}
 
 -- One pair more is taken off what is left, until nothing is.
-pub pairs-step : (ps : List Pair) (i : ℕ) (d : Pair) (n : Nodes) → i < length ps → withPairs (drop i ps) n ≡ withPairs (drop (i + 1) ps) (withPair n (getD ps i d .q) (getD ps i d .t))
+pub pairs-step : (ps : List Pair) (i : ℕ) (d : Pair) (n : NodeLists) → i < length ps → withPairs (drop i ps) n ≡ withPairs (drop (i + 1) ps) (withOneMore n (getD ps i d .q) (getD ps i d .t))
 unfolding withPairs
-pairs-step ps i d n h = ap (λ (rest : List Pair). withPairs rest n) (drop-cons ps i d h) ∙ ap (λ (k : ℕ). withPairs (drop k ps) (withPair n (getD ps i d .q) (getD ps i d .t))) (sym (add-one i))
+pairs-step ps i d n h = ap (λ (rest : List Pair). withPairs rest n) (drop-cons ps i d h) ∙ ap (λ (k : ℕ). withPairs (drop k ps) (withOneMore n (getD ps i d .q) (getD ps i d .t))) (sym (add-one i))
 
-pub pairs-end : (ps : List Pair) (i : ℕ) (n : Nodes) → i ≡ length ps → withPairs (drop i ps) n ≡ n
+pub pairs-end : (ps : List Pair) (i : ℕ) (n : NodeLists) → i ≡ length ps → withPairs (drop i ps) n ≡ n
 unfolding withPairs
 pairs-end ps i n e = ap (λ (k : ℕ). withPairs (drop k ps) n) e ∙ ap (λ (rest : List Pair). withPairs rest n) (drop-length ps)
 
 -- Two lists of 1,025 nodes each, and a count within.
-record Sized (n : Nodes) : Type 0 where
+record Sized (n : NodeLists) : Type 0 where
   count : n .count ≤ 1025
   size-q : length (n .qs) ≡ 1025
   size-t : length (n .ts) ≡ 1025
@@ -60,23 +60,23 @@ pairs-more [] (y ∷ b) q t e = absurd (omega arith)
 pairs-more (x ∷ a) [] q t e = absurd (omega arith)
 pairs-more (x ∷ a) (y ∷ b) q t e = ap (λ (ps : List Pair). pairOf x y ∷ ps) (pairs-more a b q t (omega arith))
 
-module _ (n : Nodes) (h : Sized n) (q t : ℕ) where
-  stored : n .count < 1025 → withPair n q t ≡ record { count = n .count + 1; qs = set (n .qs) (n .count) q; ts = set (n .ts) (n .count) t }
-  unfolding withPair
+module _ (n : NodeLists) (h : Sized n) (q t : ℕ) where
+  stored : n .count < 1025 → withOneMore n q t ≡ record { count = n .count + 1; qs = set (n .qs) (n .count) q; ts = set (n .ts) (n .count) t }
+  unfolding withOneMore
   stored less = rw (lt-ltb (n .count) 1025 less)
 
-  full : 1025 ≤ n .count → withPair n q t ≡ n
-  unfolding withPair
+  full : 1025 ≤ n .count → withOneMore n q t ≡ n
+  unfolding withOneMore
   full most = rw (le-ltb (n .count) 1025 most)
 
-  sized-more : Sized (withPair n q t)
+  sized-more : Sized (withOneMore n q t)
   sized-more =
       elim (lt-or-le (n .count) 1025) [
         | inl less ↦ rw (stored less) (record { count = omega (arith, less); size-q = length-set (n .qs) (n .count) q ∙ h .size-q; size-t = length-set (n .ts) (n .count) t ∙ h .size-t })
         | inr most ↦ rw (full most) h
       ]
 
-  held-more : n .count < 1025 → heldIn (withPair n q t) ≡ heldIn n ++ pairOf q t ∷ []
+  held-more : n .count < 1025 → heldIn (withOneMore n q t) ≡ heldIn n ++ pairOf q t ∷ []
   unfolding heldIn
   held-more less =
       let in-q : n .count < length (n .qs) = omega (arith, h .size-q, less) in
@@ -86,24 +86,24 @@ module _ (n : Nodes) (h : Sized n) (q t : ℕ) where
       rw (stored less, add-one (n .count), take-suc-set (n .qs) (n .count) q in-q, take-suc-set (n .ts) (n .count) t in-t)
       (pairs-more (take (n .count) (n .qs)) (take (n .count) (n .ts)) q t (long-q ∙ sym long-t))
 
-sized-all : (ps : List Pair) (n : Nodes) → Sized n → Sized (withPairs ps n)
+sized-all : (ps : List Pair) (n : NodeLists) → Sized n → Sized (withPairs ps n)
 unfolding withPairs
 sized-all [] n h = h
-sized-all (p ∷ ps) n h = sized-all ps (withPair n (p .q) (p .t)) (sized-more n h (p .q) (p .t))
+sized-all (p ∷ ps) n h = sized-all ps (withOneMore n (p .q) (p .t)) (sized-more n h (p .q) (p .t))
 
 -- With room for k pairs more, the first k of a list are added to those held.
-held-all : (ps : List Pair) (n : Nodes) (k : ℕ) → Sized n → n .count + k ≡ 1025 → heldIn (withPairs ps n) ≡ heldIn n ++ take k ps
+held-all : (ps : List Pair) (n : NodeLists) (k : ℕ) → Sized n → n .count + k ≡ 1025 → heldIn (withPairs ps n) ≡ heldIn n ++ take k ps
 unfolding withPairs
 held-all [] n k h e = rw (take-nil {A = Pair} k) (sym (append-nil (heldIn n)))
 held-all (p ∷ ps) n zero h e = rw (full n h (p .q) (p .t) (omega arith)) (held-all ps n zero h e)
 held-all (p ∷ ps) n (suc k) h e =
     let less : n .count < 1025 = omega arith in
-    let more : withPair n (p .q) (p .t) .count ≡ n .count + 1 = ap (λ (m : Nodes). m .count) (stored n h (p .q) (p .t) less) in
-    held-all ps (withPair n (p .q) (p .t)) k (sized-more n h (p .q) (p .t)) (omega arith)
+    let more : withOneMore n (p .q) (p .t) .count ≡ n .count + 1 = ap (λ (m : NodeLists). m .count) (stored n h (p .q) (p .t) less) in
+    held-all ps (withOneMore n (p .q) (p .t)) k (sized-more n h (p .q) (p .t)) (omega arith)
     ∙ ap (λ (held : List Pair). held ++ take k ps) (held-more n h (p .q) (p .t) less)
     ∙ append-assoc (heldIn n) (p ∷ []) (take k ps)
 
-pub listed-filled : (ps : List Pair) → Filled (withPairs ps noNodes)
+pub listed-filled : (ps : List Pair) → NodesFit (withPairs ps noNodes)
 listed-filled ps =
     let h = sized-all ps noNodes sized-none in
     record { room-q = omega (arith, h .count, h .size-q); room-t = omega (arith, h .count, h .size-t) }
@@ -140,7 +140,7 @@ add-many s ps z h =
     let judged : Answer = judgeOf (leavesOf (s .q)) (leavesOf (s .t)) ps (length (s .rows) + 1) in
     let counted : Answer = countAnswer (s .changes) in
     let number : Place = Seed (length (s .rows) + 1) in
-    ap (λ (x : Answer). unless (unless x judged) counted) (limit-many (length (s .rows)) (pairCount (s .rows)) (length ps) z h)
+    ap (λ (x : Answer). unless (unless x judged) counted) (limit-many (length (s .rows)) (pairsInAll (s .rows)) (length ps) z h)
     ∙ ap (λ (x : Answer). unless x counted) (denied (not (inRange z)) (leb 64 (length (s .rows))) number judged)
     ∙ denied (not (inRange z)) (leb 64 (length (s .rows))) number counted
 

@@ -5,19 +5,19 @@ use seed::Pair;
 ghost use mathlib.Core.Path.{_≡_};
 ghost use Rattle.chain.specs.Acts.{add, numberGiven};
 ghost use Rattle.chain.specs.View.{view, Sound, Does};
-ghost use Rattle.lent.specs.Listing.{noNodes, withPair, withPairs, heldIn, Filled};
+ghost use Rattle.lent.specs.inner.Listing.{noNodes, withOneMore, withPairs, heldIn, NodesFit};
 
 // The q and the t of `count` pairs: of 1,025 at most, which is one more than a session ever takes.
-pub struct Nodes {
+pub struct NodeLists {
     pub count: usize,
     pub qs: [u8; 1025],
     pub ts: [u8; 1025],
 }
 
-fn no_nodes() -> Nodes
+fn no_nodes() -> NodeLists
     ensures { λ r. ⌜ r ≡ noNodes ⌝ }
 {
-    Nodes {
+    NodeLists {
         count: 0,
         qs: [0u8; 1025],
         ts: [0u8; 1025],
@@ -25,8 +25,8 @@ fn no_nodes() -> Nodes
 }
 
 // One pair more, where there is room.
-fn with_pair(nodes: Nodes, q: u8, t: u8) -> Nodes
-    ensures { λ r. ⌜ r ≡ withPair nodes q t ⌝ }
+fn with_pair(nodes: NodeLists, q: u8, t: u8) -> NodeLists
+    ensures { λ r. ⌜ r ≡ withOneMore nodes q t ⌝ }
 {
     let at = nodes.count;
     let mut next = nodes;
@@ -40,7 +40,7 @@ fn with_pair(nodes: Nodes, q: u8, t: u8) -> Nodes
 }
 
 // The nodes of the pairs of a lent slice, from the first on, as many as there is room for.
-pub fn listed(pairs: &[Pair]) -> Nodes
+pub fn listed(pairs: &[Pair]) -> NodeLists
     ensures { λ r. ⌜ r ≡ withPairs (now (pairs .entry)) noNodes ⌝ }
 {
     let mut nodes = no_nodes();
@@ -54,8 +54,8 @@ pub fn listed(pairs: &[Pair]) -> Nodes
 }
 
 // Adds the seed of the pairs that were listed.
-pub fn add_listed(session: Session, nodes: Nodes, score: i32) -> Added
-    requires { ⌜ (Sound session) × (Filled nodes) ⌝ }
+pub fn add_listed(session: Session, nodes: NodeLists, score: i32) -> Added
+    requires { ⌜ (Sound session) × (NodesFit nodes) ⌝ }
     ensures { λ r. ⌜ Does session (add (heldIn nodes) score) (r .answer) (r .session) × (r .number ≡ numberGiven (view session) (r .answer)) ⌝ }
 {
     let count = nodes.count;

@@ -1,4 +1,4 @@
--- The best key is that of the best chain, in document 01's words, and a best chain is the only one. Assumes nothing.
+-- The best key is that of the best chain, in document 01's words, and a best chain is the only one.
 use mathlib.Core.Path.{_≡_, refl, sym, ap, subst, _∙_, fun-ext}
 use mathlib.Core.Bool.{Bool, false, _&&_}
 use mathlib.Core.Logic.{_⊎_, inl, inr}
@@ -9,7 +9,7 @@ use lib.Signed.{_≤ℤ_, ≤ℤ-refl}
 use Rattle.optimum.specs.Chain.{Seeds, Chain, total, Wins, IsBest}
 use Rattle.optimum.specs.Key.{Key, inMask, seedKey}
 use Rattle.optimum.specs.Best.{best}
-use Rattle.optimum.specs.Table.{Numbered}
+use Rattle.optimum.specs.inner.Table.{Numbered}
 use Rattle.optimum.proofs.Booleans.{Is, yes, no, is, T-neq, T-ext, and-i, and-l, and-r}
 use Rattle.optimum.proofs.Keys.{_≼_, more, same, no-gap, gap-le, le-antisym}
 use Rattle.optimum.proofs.Chains.{value, value-cong, best-upper, Attained, best-attained}

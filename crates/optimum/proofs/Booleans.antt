@@ -1,4 +1,4 @@
--- What tests say, and what holds up to a number. Assumes nothing.
+-- What tests say, and what holds up to a number.
 use mathlib.Core.Path.{_≡_, refl, subst}
 use mathlib.Core.Bool.{Bool, true, false, not, _&&_, _||_}
 use Prim.Native.Nat.{ℕ, suc, _<_}

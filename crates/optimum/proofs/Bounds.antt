@@ -1,5 +1,4 @@
 -- Every key that the table holds, or adds on the way, is a chain's, so that its total is at most 64,000,000 and its mask below 2 ^ 64.
--- Assumes nothing.
 use mathlib.Core.Path.{_≡_, sym, ap, ap₂, _∙_}
 use mathlib.Core.Bool.{Bool, true, _&&_}
 use Prim.Native.Nat.{ℕ, zero, suc, _+_, _*_, _^_, _≤_, _<_}
@@ -9,7 +8,7 @@ use lib.IntN.{ℤ, pos, _+ℤ_, +ℤ-assoc, +ℤ-comm}
 use lib.Dec.{T, leb→le}
 use lib.Signed.{_≤ℤ_}
 use Rattle.optimum.specs.Key.{Key, empty, _⊕_, better, maskOf}
-use Rattle.optimum.specs.Table.{Items, chainable, bestOf, Laws, Limited, withUnder, maxBelow, Filled, Row, stored, Small}
+use Rattle.optimum.specs.inner.Table.{Items, itemsChainable, bestAmong, Laws, Limited, withUnder, maxBelow, KeysUnder, KeyRow, stored, Small}
 use Rattle.optimum.proofs.Booleans.{Is, yes, no, is, and-l, or-r}
 use Rattle.optimum.proofs.Keys.{gap-le, le-gap, empty-⊕, better-ind}
 use Rattle.optimum.proofs.Chains.{value, value-in, value-out, Attained, skipped, kept, weakened, best-attained}
@@ -54,7 +53,7 @@ value-total-most w most f (suc n) h = go (is (f n)) (value-total-most w most f n
 
 module _ (S : Items) (N limit : ℕ) (score : ℕ → ℤ) (number : ℕ → ℕ) (limited : Limited limit score number (S .worth) N) where
   abbrev c : ℕ → ℕ → Bool
-  c = chainable S
+  c = itemsChainable S
 
   abbrev w : ℕ → Key
   w = S .worth
@@ -74,11 +73,11 @@ module _ (S : Items) (N limit : ℕ) (score : ℕ → ℤ) (number : ℕ → ℕ
         record { total = omega (arith, leb→le t (n * 1000000) (h′ .le)); mask = attained-mask (stored t m) a }
 
   -- The numbers of a best key are small.
-  pub best-small : (p : ℕ → Bool) (n : ℕ) → n ≤ N → (t m : ℕ) → bestOf S p n ≡ stored t m → Small t m
+  pub best-small : (p : ℕ → Bool) (n : ℕ) → n ≤ N → (t m : ℕ) → bestAmong S p n ≡ stored t m → Small t m
   best-small p n b t m e = attained-small p n b t m (rw (← e) (best-attained c w p n))
 
   -- The mask of an item with the best chain under it fits 64 bits.
-  pub under-small : (y : ℕ) → y < N → (t m : ℕ) → bestOf S (λ x. S .under x y) y ≡ stored t m → S .worth y .mask + m < 2 ^ 64
+  pub under-small : (y : ℕ) → y < N → (t m : ℕ) → bestAmong S (λ x. S .under x y) y ≡ stored t m → S .worth y .mask + m < 2 ^ 64
   unfolding _⊕_
   under-small y b t m e =
       omega (
@@ -88,15 +87,15 @@ module _ (S : Items) (N limit : ℕ) (score : ℕ → ℤ) (number : ℕ → ℕ
       )
 
   module _ (laws : Laws S N) (p : ℕ → Bool) (dp : Down S p N) where
-    entry-attained : (y : ℕ) → y < N → T (p y) → Attained c w p (suc y) (better empty (withUnder S y) ⊕ bestOf S (λ x. p x && S .left x y) y)
+    entry-attained : (y : ℕ) → y < N → T (p y) → Attained c w p (suc y) (better empty (withUnder S y) ⊕ bestAmong S (λ x. p x && S .left x y) y)
     entry-attained y b t =
-        better-ind (λ v. Attained c w p (suc y) (v ⊕ bestOf S (λ x. p x && S .left x y) y)) empty (withUnder S y)
+        better-ind (λ v. Attained c w p (suc y) (v ⊕ bestAmong S (λ x. p x && S .left x y) y)) empty (withUnder S y)
         (rw empty-⊕ (skipped c w p y _ (weakened c w (λ x. p x && S .left x y) p (λ x. and-l (p x) (S .left x y)) y _ (best-attained c w (λ x. p x && S .left x y) y))))
         (rw (under-and-left S N laws p dp y b t) (kept c w p y _ t (best-attained c w (λ x. p x && c x y) y)))
 
     -- The numbers of an entry of a row, an item's key in v with the best of the row left of it, are small.
-    pub entry-small : (v d : ℕ → Key) (n k : ℕ) → n ≤ N → k < n → T (p k) → Filled S v n → Row (S .left) p v d k → (t m : ℕ) → v k ⊕ maxBelow (λ j. p j && S .left j k) d k ≡ stored t m → Small t m
-    unfolding Filled
+    pub entry-small : (v d : ℕ → Key) (n k : ℕ) → n ≤ N → k < n → T (p k) → KeysUnder S v n → KeyRow (S .left) p v d k → (t m : ℕ) → v k ⊕ maxBelow (λ j. p j && S .left j k) d k ≡ stored t m → Small t m
+    unfolding KeysUnder
     entry-small v d n k b a s f r t m e =
         attained-small p (suc k) (omega arith) t m
         (rw (← (ap₂ _⊕_ (sym (f k a)) (sym (left-best S N laws p dp v d k (omega arith) (λ y h. f y (omega arith)) r)) ∙ e)) (entry-attained k (omega arith) s))

@@ -1,4 +1,4 @@
--- The best key is that of a chain, and no chain has a better one. Assumes nothing.
+-- The best key is that of a chain, and no chain has a better one.
 use mathlib.Core.Path.{_≡_, refl, ap, _∙_}
 use mathlib.Core.Bool.{Bool, false, not, cond, _&&_, _||_}
 use Prim.Native.Nat.{ℕ, zero, suc, _<_}

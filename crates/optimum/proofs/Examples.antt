@@ -1,4 +1,4 @@
--- The best key computes. Assumes nothing.
+-- The best key computes.
 use mathlib.Core.Path.{_≡_, refl}
 use mathlib.Core.Bool.{true}
 use mathlib.Core.List.{[], _∷_}

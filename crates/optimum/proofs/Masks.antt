@@ -1,4 +1,4 @@
--- Masks: their bits are the numbers of the set, and the smaller of two is that of the set that wins by the tie rule. Assumes nothing.
+-- Masks: their bits are the numbers of the set, and the smaller of two is that of the set that wins by the tie rule.
 use mathlib.Core.Path.{_≡_, refl, sym, ap, subst, _∙_, fun-ext}
 use mathlib.Core.Bool.{Bool, true, false, not, cond}
 use mathlib.Core.Logic.{_⊎_, inl, inr}

@@ -1,11 +1,11 @@
--- The best key over the numbers that pass a test. Assumes nothing.
+-- The best key over the numbers that pass a test.
 use mathlib.Core.Path.{_≡_, refl}
 use mathlib.Core.Bool.{Bool, not}
 use Prim.Native.Nat.{ℕ, zero, suc, _<_}
 use native.Mathlib.Omega.{arith}
 use lib.Dec.{T}
 use Rattle.optimum.specs.Key.{Key, empty, better}
-use Rattle.optimum.specs.Table.{maxBelow}
+use Rattle.optimum.specs.inner.Table.{maxBelow}
 use Rattle.optimum.proofs.Booleans.{Is, yes, no, is, T-eq, T-neq, up-to}
 use Rattle.optimum.proofs.Keys.{_≼_, ≼-refl, ≼-trans, better-l, better-r, better-ind}
 

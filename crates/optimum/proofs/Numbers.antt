@@ -1,4 +1,4 @@
--- A set of positions and the set of their numbers have the same key. Assumes nothing.
+-- A set of positions and the set of their numbers have the same key.
 use mathlib.Core.Path.{_≡_, refl, sym, ap, subst, _∙_}
 use mathlib.Core.Bool.{Bool, true, false, not, cond, _||_}
 use Prim.Native.Nat.{ℕ, zero, suc, _+_, _^_, _≤_, _<_}
@@ -7,7 +7,7 @@ use lib.IntN.{ℤ, _+ℤ_}
 use lib.Dec.{T, T-not, not-T, eqb, eqb→eq, eqb-refl}
 use Rattle.optimum.specs.Chain.{totalOf}
 use Rattle.optimum.specs.Key.{Key, empty, _⊕_, maskOf, seedKey}
-use Rattle.optimum.specs.Table.{Numbered}
+use Rattle.optimum.specs.inner.Table.{Numbered}
 use Rattle.optimum.proofs.Booleans.{Is, yes, no, is, T-eq, T-neq, or-l, or-r, or-e, eqb-not, not-eqb}
 use Rattle.optimum.proofs.Keys.{⊕-swap}
 use Rattle.optimum.proofs.Chains.{value, value-in, value-out, value-cong}

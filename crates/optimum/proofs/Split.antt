@@ -1,12 +1,11 @@
 -- How the best key comes apart, by the laws of left and under: with an item y it is that of y with the best under it, and the best left of it.
--- Assumes nothing.
 use mathlib.Core.Path.{_≡_}
 use mathlib.Core.Bool.{Bool, true, not, _&&_, _||_, and-or-distrib-right}
 use Prim.Native.Nat.{ℕ, zero, suc, _≤_, _<_}
 use native.Mathlib.Omega.{arith}
 use lib.Dec.{T, T-not, not-T}
 use Rattle.optimum.specs.Key.{Key, empty, _⊕_, better}
-use Rattle.optimum.specs.Table.{Items, chainable, bestOf, Laws, withUnder}
+use Rattle.optimum.specs.inner.Table.{Items, itemsChainable, bestAmong, Laws, withUnder}
 use Rattle.optimum.proofs.Booleans.{Is, yes, no, is, T-ext, and-i, and-l, and-r, or-l, or-r, or-e}
 use Rattle.optimum.proofs.Keys.{⊕-comm, ⊕-assoc, ⊕-empty, ⊕-swap, ⊕-better, better-clipped}
 use Rattle.optimum.proofs.Chains.{best-in, best-out, best-cong, best-none, best-mono}
@@ -20,7 +19,7 @@ down-all S n x y a b t r = tt
 
 module _ (S : Items) (N : ℕ) (laws : Laws S N) where
   abbrev c : ℕ → ℕ → Bool
-  c = chainable S
+  c = itemsChainable S
 
   abbrev w : ℕ → Key
   w = S .worth
@@ -58,10 +57,10 @@ module _ (S : Items) (N : ℕ) (laws : Laws S N) where
         (λ t. and-i (either x) (c x n) (or-l (l x) (u x) t) (or-l (S .left x n) (S .under x n) (cr x n (omega arith) (omega arith) t r)))
         (λ t. and-i (either x) (c x n) (or-r (l x) (u x) (and-l (u x) (c x n) t)) (and-r (u x) (c x n) t)))
 
-    split-more : bestOf S either n ≡ bestOf S l n ⊕ bestOf S u n → bestOf S (λ x. l-kept x || u-kept x) n ≡ bestOf S l-kept n ⊕ bestOf S u-kept n → bestOf S (λ x. l x || u-kept x) n ≡ bestOf S l n ⊕ bestOf S u-kept n → bestOf S either (suc n) ≡ bestOf S l (suc n) ⊕ bestOf S u (suc n)
+    split-more : bestAmong S either n ≡ bestAmong S l n ⊕ bestAmong S u n → bestAmong S (λ x. l-kept x || u-kept x) n ≡ bestAmong S l-kept n ⊕ bestAmong S u-kept n → bestAmong S (λ x. l x || u-kept x) n ≡ bestAmong S l n ⊕ bestAmong S u-kept n → bestAmong S either (suc n) ≡ bestAmong S l (suc n) ⊕ bestAmong S u (suc n)
     split-more e f g = go (is (l n)) (is (u n))
       where
-        go : Is (l n) → Is (u n) → bestOf S either (suc n) ≡ bestOf S l (suc n) ⊕ bestOf S u (suc n)
+        go : Is (l n) → Is (u n) → bestAmong S either (suc n) ≡ bestAmong S l (suc n) ⊕ bestAmong S u (suc n)
         go (yes t) (yes r) = absurd (omega (arith, rises n (omega arith) t r))
         go (yes t) (no r) =
             cc (
@@ -71,9 +70,9 @@ module _ (S : Items) (N : ℕ) (laws : Laws S N) where
               best-none c w u-kept n (no-u-kept t),
               best-in c w l n t,
               best-out c w u n r,
-              ⊕-empty (bestOf S l n),
-              ⊕-empty (bestOf S l-kept n),
-              ⊕-empty (bestOf S l (suc n)),
+              ⊕-empty (bestAmong S l n),
+              ⊕-empty (bestAmong S l-kept n),
+              ⊕-empty (bestAmong S l (suc n)),
             )
         go (no t) (yes r) =
             cc (
@@ -81,13 +80,13 @@ module _ (S : Items) (N : ℕ) (laws : Laws S N) where
               best-cong c w (λ x. either x && c x n) (λ x. l x || u-kept x) n (either-kept r),
               best-out c w l n t,
               best-in c w u n r,
-              ⊕-better (bestOf S l n) (bestOf S u n) (w n ⊕ bestOf S u-kept n),
-              ⊕-swap (w n) (bestOf S l n) (bestOf S u-kept n),
+              ⊕-better (bestAmong S l n) (bestAmong S u n) (w n ⊕ bestAmong S u-kept n),
+              ⊕-swap (w n) (bestAmong S l n) (bestAmong S u-kept n),
             )
         go (no t) (no r) = cc (best-out c w either n (not-T (either n) (or-e (l n) (u n) (T-not (l n) t) (T-not (u n) r))), best-out c w l n t, best-out c w u n r)
 
   -- If the items of one kind are left of those of another, the best of both is the two together.
-  split : (l u : ℕ → Bool) (n : ℕ) → n ≤ N → Crossed l u n → bestOf S (λ x. l x || u x) n ≡ bestOf S l n ⊕ bestOf S u n
+  split : (l u : ℕ → Bool) (n : ℕ) → n ≤ N → Crossed l u n → bestAmong S (λ x. l x || u x) n ≡ bestAmong S l n ⊕ bestAmong S u n
   split l u zero b cr = cc (best-none c w (λ x. l x || u x) 0 (λ x a. absurd (omega arith)), best-none c w l 0 (λ x a. absurd (omega arith)), best-none c w u 0 (λ x a. absurd (omega arith)), ⊕-empty empty)
   split l u (suc n) b cr =
       split-more l u n (omega arith) cr
@@ -111,7 +110,7 @@ module _ (S : Items) (N : ℕ) (laws : Laws S N) where
         (λ h. and-i (p x) (c x y) (dp x y (omega arith) b t h) (or-r (S .left x y) (S .under x y) h)))
 
     -- An item with the best under it and the best left of it is the item with the best that it is chainable with.
-    pub under-and-left : withUnder S y ⊕ bestOf S (λ x. p x && S .left x y) y ≡ w y ⊕ bestOf S (λ x. p x && c x y) y
+    pub under-and-left : withUnder S y ⊕ bestAmong S (λ x. p x && S .left x y) y ≡ w y ⊕ bestAmong S (λ x. p x && c x y) y
     unfolding withUnder
     under-and-left =
         let l : ℕ → Bool = λ x. p x && S .left x y in
@@ -119,15 +118,15 @@ module _ (S : Items) (N : ℕ) (laws : Laws S N) where
         cc (
           best-cong c w (λ x. p x && c x y) (λ x. l x || u x) y parts,
           split l u y (omega arith) (λ x z a d h k. laws .left-under x y z (omega arith) b (omega arith) (and-r (p x) (S .left x y) h) k),
-          ⊕-comm (bestOf S l y) (bestOf S u y),
-          ⊕-assoc (w y) (bestOf S u y) (bestOf S l y),
+          ⊕-comm (bestAmong S l y) (bestAmong S u y),
+          ⊕-assoc (w y) (bestAmong S u y) (bestAmong S l y),
         )
 
     -- One item more; its key with the best under it may be clipped at the empty chain.
-    pub best-step : bestOf S p (suc y) ≡ better (bestOf S p y) (better empty (withUnder S y) ⊕ bestOf S (λ x. p x && S .left x y) y)
+    pub best-step : bestAmong S p (suc y) ≡ better (bestAmong S p y) (better empty (withUnder S y) ⊕ bestAmong S (λ x. p x && S .left x y) y)
     best-step =
         cc (
           best-in c w p y t,
           under-and-left,
-          better-clipped (bestOf S p y) (bestOf S (λ x. p x && S .left x y) y) (withUnder S y) (best-mono c w (λ x. p x && S .left x y) p (λ x. and-l (p x) (S .left x y)) y),
+          better-clipped (bestAmong S p y) (bestAmong S (λ x. p x && S .left x y) y) (withUnder S y) (best-mono c w (λ x. p x && S .left x y) p (λ x. and-l (p x) (S .left x y)) y),
         )

@@ -1,4 +1,4 @@
--- The best key by trying all chains. Assumes nothing.
+-- The best key by trying all chains.
 use mathlib.Core.Bool.{Bool, cond, _&&_}
 use Prim.Native.Nat.{ℕ, zero, suc}
 use Rattle.optimum.specs.Key.{Key, empty, _⊕_, better}

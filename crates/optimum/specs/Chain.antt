@@ -1,5 +1,5 @@
 -- Chains, totals, the tie rule and the best chain (document 01, "Pairs, seeds, chains"). A set of seed numbers is a test of numbers; numbers
--- count from 0 here. Assumes nothing.
+-- count from 0 here.
 use mathlib.Core.Path.{_≡_}
 use mathlib.Core.Bool.{Bool, not, cond}
 use mathlib.Core.Logic.{_⊎_}

@@ -1,4 +1,4 @@
--- Keys: what is compared of two chains. The total comes first; the mask of the numbers stands for the tie rule. Assumes nothing.
+-- Keys: what is compared of two chains. The total comes first; the mask of the numbers stands for the tie rule.
 use mathlib.Core.Bool.{Bool, true, false, cond}
 use Prim.Native.Nat.{ℕ, zero, suc, _+_, _^_, _/_, _%_}
 use lib.IntN.{ℤ, pos, _+ℤ_}

@@ -1,4 +1,7 @@
+-- What a reader believes, in document 01's order.
 pub mod Chain
+-- The same computed.
 pub mod Key
 pub mod Best
-pub mod Table
+-- What only the contracts of inner functions cite.
+pub mod inner

@@ -10,9 +10,9 @@ use lib.IntN.{ℤ, pos}
 use lib.Signed.{mag}
 use Rattle.seed.specs.Pairs.{pairOf}
 use Rattle.deck.specs.Deck.{number16, number32, signed, SeedRecord, PairRecord, seedRecord, pairRecord, seedCount, zeroByte, pairCount, seedRecords, pairRecords}
-use Rattle.plain.specs.Plain.{unsigned, bytes16, bytes32, seedBytes, pairBytes, deckOf, All}
+use Rattle.plain.specs.Plain.{unsigned, bytes16, bytes32, seedBytes, pairBytes, deckOfRecords, All}
 use Rattle.deck.specs.Grounds.{Layout}
-use Rattle.plain.specs.Writing.{pairPart}
+use Rattle.plain.specs.inner.Writing.{pairPart}
 use Rattle.deck.proofs.Lists.{map-append, flatten-append, tab-elements}
 use Rattle.plain.proofs.Scores.{signed-unsigned}
 use Rattle.plain.proofs.Writing.{pair-part-length}
@@ -75,16 +75,16 @@ module _ (ss : List SeedRecord) (ps : List PairRecord) where
   abbrev counts : List ℕ
   counts = length ss ∷ 0 ∷ bytes16 (length ps)
 
-  pub seed-count-back : seedCount (deckOf ss ps) ≡ length ss
-  unfolding seedCount deckOf
+  pub seed-count-back : seedCount (deckOfRecords ss ps) ≡ length ss
+  unfolding seedCount deckOfRecords
   seed-count-back = refl
 
-  pub pair-count-back : pairCount (deckOf ss ps) ≡ length ps
-  unfolding pairCount number16 deckOf bytes16
+  pub pair-count-back : pairCount (deckOfRecords ss ps) ≡ length ps
+  unfolding pairCount number16 deckOfRecords bytes16
   pair-count-back = omega arith
 
-  zero-back : zeroByte (deckOf ss ps) ≡ 0
-  unfolding zeroByte deckOf
+  zero-back : zeroByte (deckOfRecords ss ps) ≡ 0
+  unfolding zeroByte deckOfRecords
   zero-back = refl
 
   counts-size : length counts ≡ 4
@@ -101,11 +101,11 @@ module _ (ss : List SeedRecord) (ps : List PairRecord) where
   unfolding pairPart
   pairs-size qs = pair-part-length qs
 
-  deck-length : length (deckOf ss ps) ≡ 4 + 6 * length ss + 4 * length ps
-  unfolding deckOf
+  deck-length : length (deckOfRecords ss ps) ≡ 4 + 6 * length ss + 4 * length ps
+  unfolding deckOfRecords
   deck-length = length-append (counts ++ flatten (map seedBytes ss)) (flatten (map pairBytes ps)) ∙ omega (arith, seeds-size, pairs-size ps)
 
-  pub layout-back : length ss ≤ 64 → length ps ≤ 1024 → Layout (deckOf ss ps)
+  pub layout-back : length ss ≤ 64 → length ps ≤ 1024 → Layout (deckOfRecords ss ps)
   layout-back a b =
       record {
         four = omega (arith, deck-length);
@@ -115,32 +115,32 @@ module _ (ss : List SeedRecord) (ps : List PairRecord) where
         exact = rw (seed-count-back, pair-count-back) deck-length;
       }
 
-  seed-at : (i : ℕ) (x : SeedRecord) → i < length ss → mag (getD ss i x .score) < 2147483648 → seedRecord (deckOf ss ps) (4 + 6 * i) ≡ getD ss i x
-  unfolding deckOf
+  seed-at : (i : ℕ) (x : SeedRecord) → i < length ss → mag (getD ss i x .score) < 2147483648 → seedRecord (deckOfRecords ss ps) (4 + 6 * i) ≡ getD ss i x
+  unfolding deckOfRecords
   seed-at i x l f =
       ap₂ seedRecord (spelled-at seedBytes counts ss (flatten (map pairBytes ps)) i x l) (sym (front-size i (omega arith)))
       ∙ seed-there (counts ++ flatten (map seedBytes (take i ss))) (getD ss i x) _ f
 
-  pub seeds-back : All (λ (s : SeedRecord). mag (s .score) < 2147483648) ss → seedRecords (deckOf ss ps) ≡ ss
+  pub seeds-back : All (λ (s : SeedRecord). mag (s .score) < 2147483648) ss → seedRecords (deckOfRecords ss ps) ≡ ss
   unfolding seedRecords
   seeds-back f =
       let x : SeedRecord = record { score = pos 0; first = 0 } in
-      tab-elements (seedCount (deckOf ss ps)) (λ i. seedRecord (deckOf ss ps) (4 + 6 * i)) ss x (sym seed-count-back)
+      tab-elements (seedCount (deckOfRecords ss ps)) (λ i. seedRecord (deckOfRecords ss ps) (4 + 6 * i)) ss x (sym seed-count-back)
       (λ i l. let m : i < length ss = rw seed-count-back at l in seed-at i x m (all-at (λ (s : SeedRecord). mag (s .score) < 2147483648) ss i x f m))
 
   pair-front-size : (i : ℕ) → i ≤ length ps → length (counts ++ flatten (map seedBytes ss) ++ flatten (map pairBytes (take i ps))) ≡ 4 + 6 * length ss + 4 * i
   pair-front-size i h = length-append (counts ++ flatten (map seedBytes ss)) (flatten (map pairBytes (take i ps))) ∙ omega (arith, seeds-size, pairs-size (take i ps), length-take-le i ps h)
 
-  pair-at : (i : ℕ) (x : PairRecord) → i < length ps → pairRecord (deckOf ss ps) (4 + 6 * length ss + 4 * i) ≡ getD ps i x
-  unfolding deckOf
+  pair-at : (i : ℕ) (x : PairRecord) → i < length ps → pairRecord (deckOfRecords ss ps) (4 + 6 * length ss + 4 * i) ≡ getD ps i x
+  unfolding deckOfRecords
   pair-at i x l =
       let front = counts ++ flatten (map seedBytes ss) in
       ap₂ pairRecord (sym (append-nil (front ++ flatten (map pairBytes ps))) ∙ spelled-at pairBytes front ps [] i x l) (sym (pair-front-size i (omega arith)))
       ∙ pair-there (front ++ flatten (map pairBytes (take i ps))) (getD ps i x) _
 
-  pub pairs-back : pairRecords (deckOf ss ps) ≡ ps
+  pub pairs-back : pairRecords (deckOfRecords ss ps) ≡ ps
   unfolding pairRecords
   pairs-back =
       let x : PairRecord = record { pair = pairOf 0 0; next = 0 } in
-      tab-elements (pairCount (deckOf ss ps)) (λ i. pairRecord (deckOf ss ps) (4 + 6 * seedCount (deckOf ss ps) + 4 * i)) ps x (sym pair-count-back)
+      tab-elements (pairCount (deckOfRecords ss ps)) (λ i. pairRecord (deckOfRecords ss ps) (4 + 6 * seedCount (deckOfRecords ss ps) + 4 * i)) ps x (sym pair-count-back)
       (λ i l. let m : i < length ps = rw pair-count-back at l in rw seed-count-back (pair-at i x m))

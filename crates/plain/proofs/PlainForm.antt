@@ -16,8 +16,8 @@ use Rattle.deck.specs.Deck.{SeedRecord, PairRecord, chainsOf}
 use Rattle.deck.proofs.Lists.{map-append, flatten-more}
 use Rattle.write.proofs.Sets.{sets-after}
 use Rattle.write.proofs.Wrote.{wrote-none, wrote-all}
-use Rattle.plain.specs.Plain.{bytes16, bytes32, seedBytes, plainChain, plainPairs, plainSeeds, deckOf, plainOf, Writes}
-use Rattle.plain.specs.Writing.{sizeOf, seedPart, pairPart}
+use Rattle.plain.specs.Plain.{bytes16, bytes32, seedBytes, plainChain, plainPairs, plainSeeds, deckOfRecords, plainOf, WritesPlain}
+use Rattle.plain.specs.inner.Writing.{sizeOf, seedPart, pairPart}
 use Rattle.plain.specs.declared.size.Size.{Size}
 use Rattle.plain.proofs.Writing.{chain-length, pair-part-length}
 
@@ -77,7 +77,7 @@ abbrev pub counts : ℕ → ℕ → List ℕ
 counts s k = s ∷ 0 ∷ bytes16 k
 
 pub plain-parts : (rows : List Row) → plainOf rows ≡ counts (length rows) (length (flatten (chainsOf rows))) ++ seedPart rows ++ pairPart (plainPairs 1 (chainsOf rows))
-unfolding plainOf deckOf seedPart pairPart
+unfolding plainOf deckOfRecords seedPart pairPart
 plain-parts rows = rw (seeds-count 1 rows, pairs-count 1 (chainsOf rows))
 
 counts-length : (s k : ℕ) → length (counts s k) ≡ 4
@@ -104,7 +104,7 @@ module _ (rows : List Row) (size : Size) (is : size ≡ sizeOf rows) where
   length-is : 4 + 6 * size .seeds + 4 * size .pairs ≡ length (plainOf rows)
   length-is = omega (arith, seeds-is, pairs-is, plain-length rows)
 
-  pub writes-none : (out : List ℕ) → length out < 4 + 6 * size .seeds + 4 * size .pairs → Writes rows out out (record { answer = Refused OutputShort Nothing; length = 0 })
+  pub writes-none : (out : List ℕ) → length out < 4 + 6 * size .seeds + 4 * size .pairs → WritesPlain rows out out (record { answer = Refused OutputShort Nothing; length = 0 })
   writes-none out h = wrote-none (plainOf rows) out (omega (arith, length-is))
 
   one-piece : (out m1 m2 m3 : List ℕ) → m1 ≡ sets out 0 (counts (size .seeds) (size .pairs)) → m2 ≡ sets m1 4 (seedPart rows) → m3 ≡ sets m2 (4 + 6 * size .seeds) (pairPart (plainPairs 1 (chainsOf rows))) → m3 ≡ sets out 0 (plainOf rows)
@@ -113,5 +113,5 @@ module _ (rows : List Row) (size : Size) (is : size ≡ sizeOf rows) where
       sets-after out 0 (counts (size .seeds) (size .pairs) ++ seedPart rows) (pairPart (plainPairs 1 (chainsOf rows))) front c (omega (arith, seeds-is, front-length (size .seeds) (size .pairs) rows))
       ∙ ap (sets out 0) (ap₂ (λ (s k : ℕ). counts s k ++ seedPart rows ++ pairPart (plainPairs 1 (chainsOf rows))) seeds-is pairs-is ∙ sym (plain-parts rows))
 
-  pub writes-all : (out m1 m2 m3 : List ℕ) → 4 + 6 * size .seeds + 4 * size .pairs ≤ length out → m1 ≡ sets out 0 (counts (size .seeds) (size .pairs)) → m2 ≡ sets m1 4 (seedPart rows) → m3 ≡ sets m2 (4 + 6 * size .seeds) (pairPart (plainPairs 1 (chainsOf rows))) → Writes rows out m3 (record { answer = Accepted; length = 4 + 6 * size .seeds + 4 * size .pairs })
+  pub writes-all : (out m1 m2 m3 : List ℕ) → 4 + 6 * size .seeds + 4 * size .pairs ≤ length out → m1 ≡ sets out 0 (counts (size .seeds) (size .pairs)) → m2 ≡ sets m1 4 (seedPart rows) → m3 ≡ sets m2 (4 + 6 * size .seeds) (pairPart (plainPairs 1 (chainsOf rows))) → WritesPlain rows out m3 (record { answer = Accepted; length = 4 + 6 * size .seeds + 4 * size .pairs })
   writes-all out m1 m2 m3 h a b c = wrote-all (plainOf rows) out m3 _ length-is (omega (arith, length-is)) (one-piece out m1 m2 m3 a b c)

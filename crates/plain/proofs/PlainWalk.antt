@@ -18,9 +18,9 @@ use Rattle.table.specs.Rows.{Row, newRow, pairsOfRow}
 use Rattle.deck.specs.Deck.{SeedRecord, PairRecord, firstOf, recordOf, isIn, rowsBy, chainsOf}
 use Rattle.plain.specs.Plain.{plainChain, plainPairs, plainSeeds, All, RowInLimits}
 use Rattle.deck.specs.Grounds.{Fresh, Passes, Walked, Ended}
-use Rattle.deck.specs.Grounds.Passes.{here, onward}
-use Rattle.deck.specs.Grounds.Walked.{none, one-more}
-use Rattle.plain.specs.Writing.{nextOf}
+use Rattle.deck.specs.Grounds.Passes.{at-start, onward}
+use Rattle.deck.specs.Grounds.Walked.{none-yet, one-more}
+use Rattle.plain.specs.inner.Writing.{nextOf}
 use Rattle.seed.proofs.Tabs.{length-tab, map-tab}
 use Rattle.deck.proofs.Lists.{tab-next, tab-elements, map-append, flatten-append, flatten-more}
 use Rattle.deck.proofs.Counting.{isIn-more}
@@ -111,7 +111,7 @@ module _ (front : List (List Pair)) (c : List Pair) (back : List (List Pair)) wh
 
   passes : (j : ℕ) → j ≤ length c → 0 < length c → Passes ps (flatten (runs 1 front)) k (numbers k j) (after j)
   unfolding numbers tab
-  passes zero h s = rw (lt-ltb 0 (length c) s, add-zero k) here
+  passes zero h s = rw (lt-ltb 0 (length c) s, add-zero k) at-start
   passes (suc j) h s =
       let p : Passes ps (flatten (runs 1 front)) k (numbers k j) (k + j) = rw (lt-ltb j (length c) h) at (passes j (omega arith) s) in
       let e : k + j + 1 ≡ k + suc j = omega arith in
@@ -168,7 +168,7 @@ walked-from front (r ∷ back) a w =
 
 pub plain-ended : (rows : List Row) → All RowInLimits rows → Ended (plainSeeds 1 rows) (plainPairs 1 (chainsOf rows)) (runs 1 (chainsOf rows))
 unfolding runs
-plain-ended rows a = record { walked = walked-from [] rows a none; all = runs-length 1 (chainsOf rows) ∙ length-map rows pairsOfRow ∙ sym (seeds-count 1 rows) }
+plain-ended rows a = record { walked = walked-from [] rows a none-yet; all = runs-length 1 (chainsOf rows) ∙ length-map rows pairsOfRow ∙ sym (seeds-count 1 rows) }
 
 pub plain-reached : (rows : List Row) → length (flatten (runs 1 (chainsOf rows))) ≡ length (plainPairs 1 (chainsOf rows))
 plain-reached rows = ap length (runs-flat 1 (chainsOf rows)) ∙ numbers-length 1 (length (flatten (chainsOf rows))) ∙ sym (pairs-count 1 (chainsOf rows))

@@ -9,7 +9,7 @@ use native.Mathlib.Omega.{arith}
 use lib.ListN.{length, getD, length-append}
 use Rattle.tree.proofs.Leaves.{lt-or-le}
 use Rattle.seed.specs.Tab.{tab}
-use Rattle.table.specs.Rows.{Row, presentRows, pairCount, pairsOfRow}
+use Rattle.table.specs.Rows.{Row, presentRows, pairsInAll, pairsOfRow}
 use Rattle.table.specs.Table.{nodesOf, rowAt, rowsOf, Laid}
 use Rattle.table.specs.declared.Table.{Table}
 use Rattle.table.proofs.Tables.{rows-length, rows-count, pairs-length}
@@ -37,15 +37,15 @@ present-append (x ∷ xs) ys = go (x .present) (present-append xs ys)
     go true e = ap (λ (l : List Row). x ∷ l) e
     go false e = e
 
-present-few : (rows : List Row) → (length (presentRows rows) ≤ length rows) × (pairTotal (presentRows rows) ≤ pairCount rows)
-unfolding presentRows pairCount flatten
+present-few : (rows : List Row) → (length (presentRows rows) ≤ length rows) × (pairTotal (presentRows rows) ≤ pairsInAll rows)
+unfolding presentRows pairsInAll flatten
 present-few [] = (omega arith, omega arith)
 present-few (r ∷ rows) = go (r .present) (present-few rows)
   where
     rest : List Row
     rest = presentRows rows
 
-    go : (b : Bool) → (length rest ≤ length rows) × (pairTotal rest ≤ pairCount rows) → (length (cond b (r ∷ rest) rest) ≤ suc (length rows)) × (pairTotal (cond b (r ∷ rest) rest) ≤ length (r .pairs) + pairCount rows)
+    go : (b : Bool) → (length rest ≤ length rows) × (pairTotal rest ≤ pairsInAll rows) → (length (cond b (r ∷ rest) rest) ≤ suc (length rows)) × (pairTotal (cond b (r ∷ rest) rest) ≤ length (r .pairs) + pairsInAll rows)
     go true e = (omega arith, omega (arith, length-append (r .pairs) (flatten (chainsOf rest))))
     go false e = (omega arith, omega arith)
 

@@ -15,15 +15,15 @@ use Rattle.table.specs.Rows.{Row, noRow, presentRows, pairsOfRow}
 use Rattle.table.specs.Table.{rowAt, rowsOf, Laid}
 use Rattle.table.specs.declared.Table.{Table}
 use Rattle.table.proofs.Tables.{rows-length, row-there, pairs-some}
-use Rattle.deck.specs.Deck.{number32, SeedRecord, PairRecord, seedRecord, seedCount, seedRecords, pairRecords, recordOf, allIn, walks, settled, reading, rowsBy, chainsOf}
-use Rattle.plain.specs.Plain.{deckOf, plainPairs, plainSeeds, plainOf, All, RowInLimits, InLimits, Writes}
-use Rattle.deck.specs.Deck.Reading.{accepted}
+use Rattle.deck.specs.Deck.{Bytes, number32, SeedRecord, PairRecord, seedRecord, seedCount, seedRecords, pairRecords, recordOf, allIn, walks, settled, deckReading, rowsBy, chainsOf}
+use Rattle.plain.specs.Plain.{deckOfRecords, plainPairs, plainSeeds, plainOf, All, RowInLimits, InLimits, WritesPlain}
+use Rattle.deck.specs.Deck.DeckReading.{deckAccepted}
 use Rattle.deck.specs.Handed.{rowsIn, Reads}
 use Rattle.deck.specs.Grounds.{Ended}
 use Rattle.deck.specs.declared.DeckRead.{DeckRead}
 use Rattle.write.specs.declared.Written.{Written}
 use Rattle.write.proofs.Wrote.{wrote-front}
-use Rattle.deck.proofs.Numbers.{Bytes, number32-below, signed-small}
+use Rattle.deck.proofs.Numbers.{number32-below, signed-small}
 use Rattle.deck.proofs.Counting.{all-reached}
 use Rattle.deck.proofs.Walks.{counted-walked}
 use Rattle.deck.proofs.Grounds.{reading-laid, settled-all}
@@ -39,17 +39,17 @@ seeds-small k [] a = tt
 seeds-small k (r ∷ rows) a = (a .0 .score, seeds-small (k + length (r .pairs)) rows (a .1))
 
 -- Reading the plain form of seeds within the limits gives these seeds.
-pub read-plain : (rows : List Row) → InLimits rows → reading (plainOf rows) ≡ accepted rows
+pub read-plain : (rows : List Row) → InLimits rows → deckReading (plainOf rows) ≡ deckAccepted rows
 unfolding plainOf
 read-plain rows h =
     let ss : List SeedRecord = plainSeeds 1 rows in
     let ps : List PairRecord = plainPairs 1 (chainsOf rows) in
     let e : Ended ss ps (runs 1 (chainsOf rows)) = plain-ended rows (h .each) in
     let a : allIn (length ps) (flatten (runs 1 (chainsOf rows))) ≡ true = all-reached (counted-walked ss ps (e .walked)) (omega (arith, plain-reached rows)) in
-    reading-laid (deckOf ss ps) (layout-back ss ps (omega (arith, seeds-count 1 rows, h .seeds)) (omega (arith, pairs-count 1 (chainsOf rows), h .pairs)))
+    reading-laid (deckOfRecords ss ps) (layout-back ss ps (omega (arith, seeds-count 1 rows, h .seeds)) (omega (arith, pairs-count 1 (chainsOf rows), h .pairs)))
     ∙ ap₂ (λ (x : List SeedRecord) (y : List PairRecord). settled x y (walks y [] x)) (seeds-back ss ps (seeds-small 1 rows (h .each))) (pairs-back ss ps)
     ∙ settled-all ss ps e a
-    ∙ ap accepted (plain-rows rows (h .each))
+    ∙ ap deckAccepted (plain-rows rows (h .each))
 
 -- The seeds of an accepted deck are within the limits.
 rows-small : (ss : List SeedRecord) (ps : List PairRecord) (chains : List (List ℕ)) → All (λ (s : SeedRecord). mag (s .score) < 2147483648) ss → All (λ (c : List ℕ). 0 < length c) chains → All RowInLimits (rowsBy ss ps chains)
@@ -71,7 +71,7 @@ records-small : (d : List ℕ) → Bytes d → All (λ (s : SeedRecord). mag (s 
 unfolding seedRecords seedRecord
 records-small d b = all-tab (λ (s : SeedRecord). mag (s .score) < 2147483648) (seedCount d) (λ i. seedRecord d (4 + 6 * i)) (λ i. signed-small (number32 d (4 + 6 * i)) (number32-below d (4 + 6 * i) b))
 
-pub accepted-limits : (d : List ℕ) (rows : List Row) → Bytes d → reading d ≡ accepted rows → InLimits rows
+pub accepted-limits : (d : List ℕ) (rows : List Row) → Bytes d → deckReading d ≡ deckAccepted rows → InLimits rows
 accepted-limits d rows b e =
     let s = source d rows e in
     let t = storable d rows s in
@@ -82,17 +82,17 @@ accepted-limits d rows b e =
     }
 
 -- An accepted deck's plain form reads the same.
-pub read-again : (d : List ℕ) (rows : List Row) → Bytes d → reading d ≡ accepted rows → reading (plainOf rows) ≡ accepted rows
+pub read-again : (d : List ℕ) (rows : List Row) → Bytes d → deckReading d ≡ deckAccepted rows → deckReading (plainOf rows) ≡ deckAccepted rows
 read-again d rows b e = read-plain rows (accepted-limits d rows b e)
 
 -- What was read from a deck and is written is the deck's plain form.
-pub read-written : (d : List ℕ) (rows : List Row) (r : DeckRead) (before after : List ℕ) (w : Written) → reading d ≡ accepted rows → Reads d r → Writes (presentRows (rowsOf (r .table))) before after w → Writes rows before after w
+pub read-written : (d : List ℕ) (rows : List Row) (r : DeckRead) (before after : List ℕ) (w : Written) → deckReading d ≡ deckAccepted rows → Reads d r → WritesPlain (presentRows (rowsOf (r .table))) before after w → WritesPlain rows before after w
 read-written d rows r before after w e s x =
-    subst (λ (l : List Row). Writes l before after w) (ap presentRows (s .rows) ∙ reading-present d ∙ ap rowsIn e) x
+    subst (λ (l : List Row). WritesPlain l before after w) (ap presentRows (s .rows) ∙ reading-present d ∙ ap rowsIn e) x
 
 -- Read, written into an output that has room, and read again: the same seeds.
-pub read-write-read : (d : List ℕ) (rows : List Row) (r : DeckRead) (before after : List ℕ) (w : Written) → Bytes d → reading d ≡ accepted rows → Reads d r → length (plainOf rows) ≤ length before → Writes (presentRows (rowsOf (r .table))) before after w → reading (take (w .length) after) ≡ accepted rows
-read-write-read d rows r before after w b e s l x = ap reading (wrote-front (plainOf rows) before after w l (read-written d rows r before after w e s x)) ∙ read-again d rows b e
+pub read-write-read : (d : List ℕ) (rows : List Row) (r : DeckRead) (before after : List ℕ) (w : Written) → Bytes d → deckReading d ≡ deckAccepted rows → Reads d r → length (plainOf rows) ≤ length before → WritesPlain (presentRows (rowsOf (r .table))) before after w → deckReading (take (w .length) after) ≡ deckAccepted rows
+read-write-read d rows r before after w b e s l x = ap deckReading (wrote-front (plainOf rows) before after w l (read-written d rows r before after w e s x)) ∙ read-again d rows b e
 
 -- The present rows of a filled table, with scores of 32 bits, are within the limits, so that what is written of them reads as them.
 present-each : (rows : List Row) → ((i : ℕ) → i < length rows → (0 < length (getD rows i noRow .pairs)) × (mag (getD rows i noRow .score) < 2147483648)) → All RowInLimits (presentRows rows)
@@ -114,5 +114,5 @@ module _ (t : Table) (h : Laid t) (small : (i : ℕ) → i < t .seeds → mag (g
         each = present-each (rowsOf t) (λ i l. let m : i < t .seeds = omega (arith, rows-length t) in rw (row-there t i m) (pairs-some t h i m, small i m));
       }
 
-  pub write-read : (before after : List ℕ) (w : Written) → length (plainOf (presentRows (rowsOf t))) ≤ length before → Writes (presentRows (rowsOf t)) before after w → reading (take (w .length) after) ≡ accepted (presentRows (rowsOf t))
-  write-read before after w l x = ap reading (wrote-front (plainOf (presentRows (rowsOf t))) before after w l x) ∙ read-plain (presentRows (rowsOf t)) table-limits
+  pub write-read : (before after : List ℕ) (w : Written) → length (plainOf (presentRows (rowsOf t))) ≤ length before → WritesPlain (presentRows (rowsOf t)) before after w → deckReading (take (w .length) after) ≡ deckAccepted (presentRows (rowsOf t))
+  write-read before after w l x = ap deckReading (wrote-front (plainOf (presentRows (rowsOf t))) before after w l x) ∙ read-plain (presentRows (rowsOf t)) table-limits

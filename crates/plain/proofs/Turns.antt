@@ -16,7 +16,7 @@ use Rattle.table.proofs.Tables.{q-length, t-length}
 use Rattle.deck.specs.Deck.{chainsOf}
 use Rattle.deck.proofs.Lists.{map-append}
 use Rattle.plain.specs.Plain.{seedBytes, plainChain, plainPairs}
-use Rattle.plain.specs.Writing.{sizeOf, seedPart, pairPart}
+use Rattle.plain.specs.inner.Writing.{sizeOf, seedPart, pairPart}
 use Rattle.plain.specs.declared.size.Size.{Size}
 use Rattle.write.proofs.Sets.{sets-after}
 use Rattle.plain.proofs.Writing.{pair-part-append, pair-part-length}

@@ -14,7 +14,7 @@ use Rattle.seed.specs.Pairs.{pairOf, pairsOf}
 use Rattle.seed.specs.declared.Pair.{Pair}
 use Rattle.deck.specs.Deck.{PairRecord}
 use Rattle.plain.specs.Plain.{unsigned, bytes16, bytes32, seedBytes, pairBytes, plainChain}
-use Rattle.plain.specs.Writing.{nextOf, pairPart}
+use Rattle.plain.specs.inner.Writing.{nextOf, pairPart}
 use Rattle.seed.proofs.PairLists.{count-first}
 use Rattle.seed.proofs.Tabs.{length-tab, getD-tab}
 use Rattle.write.proofs.Sets.{sets-after}

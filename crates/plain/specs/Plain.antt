@@ -33,8 +33,8 @@ seedBytes s = bytes32 (unsigned (s .score)) ++ bytes16 (s .first)
 unfoldable pub pairBytes : PairRecord → List ℕ
 pairBytes p = p .pair .q ∷ p .pair .t ∷ bytes16 (p .next)
 
-unfoldable pub deckOf : List SeedRecord → List PairRecord → List ℕ
-deckOf ss ps = (length ss ∷ 0 ∷ bytes16 (length ps)) ++ flatten (map seedBytes ss) ++ flatten (map pairBytes ps)
+unfoldable pub deckOfRecords : List SeedRecord → List PairRecord → List ℕ
+deckOfRecords ss ps = (length ss ∷ 0 ∷ bytes16 (length ps)) ++ flatten (map seedBytes ss) ++ flatten (map pairBytes ps)
 
 -- The plain form: the pair records of the seeds one after another, the first of them number k; next is one higher each time, and zero at a
 -- seed's end.
@@ -50,11 +50,11 @@ plainSeeds k [] = []
 plainSeeds k (r ∷ rs) = record { score = r .score; first = k } ∷ plainSeeds (k + length (r .pairs)) rs
 
 unfoldable pub plainOf : List Row → List ℕ
-plainOf rows = deckOf (plainSeeds 1 rows) (plainPairs 1 (chainsOf rows))
+plainOf rows = deckOfRecords (plainSeeds 1 rows) (plainPairs 1 (chainsOf rows))
 
 -- What writing the deck of these rows promises, of its answer and of the output before and after.
-abbrev pub Writes : List Row → List ℕ → List ℕ → Written → Type 0
-Writes rows before after r = Wrote (plainOf rows) before after r
+abbrev pub WritesPlain : List Row → List ℕ → List ℕ → Written → Type 0
+WritesPlain rows before after r = Wrote (plainOf rows) before after r
 
 -- Each of the list has P.
 abbrev pub All : {A : Type 0} → (A → Type 0) → List A → Type 0

@@ -15,12 +15,12 @@ use table::Table;
 use write::Written;
 ghost use Rattle.table.specs.Rows.{presentRows};
 ghost use Rattle.table.specs.Table.{rowsOf, Laid};
-ghost use Rattle.plain.specs.Plain.{Writes};
+ghost use Rattle.plain.specs.Plain.{WritesPlain};
 
 // Writes the present seeds in plain form, and answers how many bytes that is.
 pub fn write(table: Table, out: &mut [u8]) -> Written
     requires { ⌜ Laid table ⌝ }
-    ensures { λ r. ⌜ Writes (presentRows (rowsOf table)) (now (out .entry)) (now (out .exit)) r ⌝ }
+    ensures { λ r. ⌜ WritesPlain (presentRows (rowsOf table)) (now (out .entry)) (now (out .exit)) r ⌝ }
 {
     let size = size_of(table);
     let start = 4 + 6 * size.seeds;

@@ -11,7 +11,7 @@ ghost use Rattle.table.specs.Rows.{presentRows};
 ghost use Rattle.table.specs.Table.{rowsOf, Laid};
 ghost use Rattle.deck.specs.Deck.{chainsOf};
 ghost use Rattle.plain.specs.Plain.{plainPairs};
-ghost use Rattle.plain.specs.Writing.{sizeOf, seedPart, pairPart};
+ghost use Rattle.plain.specs.inner.Writing.{sizeOf, seedPart, pairPart};
 
 // The seed records of the present seeds, from the fifth byte on.
 pub fn put_seeds(out: &mut [u8], table: Table)

@@ -7,7 +7,7 @@ ghost use lib.ListN.{length};
 ghost use lib.Seq.{sets};
 ghost use Rattle.seed.specs.Pairs.{pairOf, pairsOf};
 ghost use Rattle.plain.specs.Plain.{unsigned, bytes16, seedBytes, pairBytes, plainChain};
-ghost use Rattle.plain.specs.Writing.{nextOf, pairPart};
+ghost use Rattle.plain.specs.inner.Writing.{nextOf, pairPart};
 
 // A number of 16 bits, at `at`.
 fn put_number(out: &mut [u8], at: usize, n: usize)

@@ -4,7 +4,7 @@ use table::nodes_of;
 ghost use mathlib.Core.Path.{_≡_};
 ghost use Rattle.table.specs.Rows.{presentRows};
 ghost use Rattle.table.specs.Table.{rowsOf, Laid};
-ghost use Rattle.plain.specs.Writing.{sizeOf};
+ghost use Rattle.plain.specs.inner.Writing.{sizeOf};
 
 // How many seeds are to be written, and how many pairs.
 pub struct Size {

@@ -10,7 +10,8 @@ use lib.Dec.{eqb}
 use lib.ListN.{length, getD, take, drop, length-take, length-drop, drop-of-length-le}
 use lib.Seq.{drop-cons, drop-drop, take-take, take-nil}
 use borrow.Author.Tests.{eq-eqb, ne-eqb}
-use Rattle.report.specs.Input.{readBytes, ahead, behind, between, partFrom, Lies, Parted}
+use Rattle.report.specs.Input.{readBytes, ahead, behind}
+use Rattle.report.specs.inner.Steps.{inputBetween, partFrom, Lies, Parted}
 use Rattle.report.specs.declared.input.Part.{Part}
 
 -- The bytes before the line feed are counted: i of them, and those from place i on.
@@ -74,15 +75,15 @@ drop-min (suc k) [] = rw min-zero
 drop-min (suc k) (x ∷ l) = rw suc-min-suc (drop-min k l)
 
 -- What stands from the start up to the end of what is read is all that is read.
-first : (input : List ℕ) (end : ℕ) → end ≡ min 8192 (length input) → between input 0 end ≡ readBytes input
+first : (input : List ℕ) (end : ℕ) → end ≡ min 8192 (length input) → inputBetween input 0 end ≡ readBytes input
 unfolding readBytes
 first input end is = rw (sub-zero, is) (take-min 8192 input)
 
 module _ (input : List ℕ) (start end : ℕ) where
   abbrev rest : List ℕ
-  rest = between input start end
+  rest = inputBetween input start end
 
-  drop-between : (j : ℕ) → drop j rest ≡ between input (start + j) end
+  drop-between : (j : ℕ) → drop j rest ≡ inputBetween input (start + j) end
   drop-between j =
       let same : end - start - j ≡ end - (start + j) = omega arith in
       drop-take j (end - start) (drop start input) ∙ rw (same, drop-drop j start input)
@@ -114,11 +115,11 @@ module _ (input : List ℕ) (start end : ℕ) where
       lies : Lies input part (ahead s)
       lies = subst (λ (p : Part). Lies input p (ahead s)) (sym is) (subst (λ (l : List ℕ). Lies input (partFrom input start end) (ahead l)) holds part-lies)
 
-      next : {at : ℕ} → at ≡ min (part .end + 1) end → between input at end ≡ behind s
+      next : {at : ℕ} → at ≡ min (part .end + 1) end → inputBetween input at end ≡ behind s
       next {at = at} is-next =
           let stop : part .end ≡ start + length (ahead rest) = ap (λ (p : Part). p .end) is in
           let same : at ≡ start + min (suc (length (ahead rest))) (length rest) = omega (arith, length-rest) in
-          ap (λ (n : ℕ). between input n end) same
+          ap (λ (n : ℕ). inputBetween input n end) same
           ∙ sym (drop-between (min (suc (length (ahead rest))) (length rest)))
           ∙ drop-min (suc (length (ahead rest))) rest
           ∙ sym (behind-drop rest)
@@ -135,7 +136,7 @@ module _ (input : List ℕ) {q t : Part} {end second third : ℕ}
   parted =
       let within : end ≤ length input = omega arith in
       let some : second ≤ end = omega arith in
-      let in-t : between input second end ≡ behind (readBytes input) = next input 0 end (omega arith) within is-q (first input end is-end) is-second in
+      let in-t : inputBetween input second end ≡ behind (readBytes input) = next input 0 end (omega arith) within is-q (first input end is-end) is-second in
       record {
         in-q = lies input 0 end (omega arith) within is-q (first input end is-end);
         in-t = lies input second end some within is-t in-t;

@@ -28,12 +28,13 @@ use Rattle.lines.specs.Lines.{resultLines, refusalLine, printed}
 use Rattle.lines.specs.declared.Lines.{Lines}
 use Rattle.lines.proofs.Lengths.{length-refusal, length-result}
 use Rattle.lines.proofs.Printed.{printed-bytes}
-use Rattle.report.specs.Input.{textQ, textT, between, Parted}
-use Rattle.report.specs.Report.{outcomeOf, chainLines, linesBy, linesOf, zeroedBy, scratchLeft, scratchBy, reportedOf, reportOf, outputLeft, Reports, ChainPut}
+use Rattle.report.specs.Input.{textQ, textT}
+use Rattle.report.specs.inner.Steps.{inputBetween, Parted, ChainPut}
+use Rattle.report.specs.Report.{outcomeOf, chainLines, linesBy, linesOf, zeroedBy, scratchLeft, scratchBy, reportedOf, reportOf, outputLeft, Reports}
 use Rattle.report.specs.declared.input.Parts.{Parts}
 
 -- The session is opened on the three parts.
-pub opens-input : (input q t d : List ℕ) (parts : Parts) → Parted input parts → q ≡ between input (parts .q .start) (parts .q .end) → t ≡ between input (parts .t .start) (parts .t .end) → d ≡ between input (parts .deck .start) (parts .deck .end) → {a : Answer} {s : Session} → Opens (deckOpening q t d) a s → Opens (outcomeOf input) a s
+pub opens-input : (input q t d : List ℕ) (parts : Parts) → Parted input parts → q ≡ inputBetween input (parts .q .start) (parts .q .end) → t ≡ inputBetween input (parts .t .start) (parts .t .end) → d ≡ inputBetween input (parts .deck .start) (parts .deck .end) → {a : Answer} {s : Session} → Opens (deckOpening q t d) a s → Opens (outcomeOf input) a s
 unfolding outcomeOf
 opens-input input q t d parts w is-q is-t is-d {a} {s} o =
     subst (λ (x : List ℕ). Opens (deckOpening (textQ input) (textT input) x) a s) (is-d ∙ w .in-deck .holds)

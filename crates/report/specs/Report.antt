@@ -10,7 +10,7 @@ use Rattle.answer.specs.declared.Ground.the-variants.{ScratchShort}
 use Rattle.answer.specs.declared.Place.the-variants.{Nothing}
 use Rattle.answer.specs.declared.Answer.{Answer}
 use Rattle.answer.specs.declared.Answer.the-variants.{Accepted, Refused}
-use Rattle.write.specs.Wrote.{writtenOf, outputOf, Wrote}
+use Rattle.write.specs.Wrote.{writtenOf, outputOf}
 use Rattle.write.specs.declared.Written.{Written}
 use Rattle.best.specs.Best.{scratchNeeded}
 use Rattle.chain.specs.State.{State}
@@ -63,8 +63,3 @@ pub record Reports (input scratch scratch′ out out′ : List ℕ) (r : Written
   pub answers : r ≡ reportOf input scratch out
   pub scratch-left : scratch′ ≡ scratchBy (r .answer) (scratchLeft input scratch) scratch
   pub output-left : out′ ≡ outputLeft input scratch out
-
--- For the inner functions: the lines of a session's best chain are written, and the scratch is zero, or as it was on a refusal.
-pub record ChainPut (s : State) (scratch scratch′ out out′ : List ℕ) (r : Written) : Type 0 where
-  pub wrote : Wrote (chainLines s) out out′ r
-  pub scratch-left : scratch′ ≡ scratchBy (r .answer) (replicate (length scratch) 0) scratch

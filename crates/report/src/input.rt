@@ -2,7 +2,8 @@
 ghost use mathlib.Core.Path.{_≡_};
 ghost use Prim.Native.Nat.{_+_, _≤_, min};
 ghost use lib.ListN.{length};
-ghost use Rattle.report.specs.Input.{ahead, between, partFrom, Parted};
+ghost use Rattle.report.specs.Input.{ahead};
+ghost use Rattle.report.specs.inner.Steps.{inputBetween, partFrom, Parted};
 
 pub struct Part {
     pub start: usize,
@@ -50,7 +51,7 @@ fn part_from(input: &[u8], start: usize, end: usize) -> Part
 // The bytes of a part.
 pub fn bytes_of<'a>(input: &'a [u8], part: Part) -> &'a [u8]
     requires { ⌜ (part .start ≤ part .end) × (part .end ≤ length (now input)) ⌝ }
-    ensures { λ r. ⌜ now r ≡ between (now (input .entry)) (part .start) (part .end) ⌝ }
+    ensures { λ r. ⌜ now r ≡ inputBetween (now (input .entry)) (part .start) (part .end) ⌝ }
 {
     let start = part.start;
     let end = part.end;

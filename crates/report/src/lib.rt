@@ -25,7 +25,8 @@ ghost use Rattle.write.specs.Wrote.{Wrote};
 ghost use Rattle.best.specs.Best.{scratchNeeded};
 ghost use Rattle.chain.specs.Opening.{Opens};
 ghost use Rattle.chain.specs.View.{view, Sound};
-ghost use Rattle.report.specs.Report.{outcomeOf, reportOf, Reports, ChainPut};
+ghost use Rattle.report.specs.Report.{outcomeOf, reportOf, Reports};
+ghost use Rattle.report.specs.inner.Steps.{ChainPut};
 
 // The session on an input's Q, T and deck.
 fn opened_on(input: &[u8]) -> Changed

@@ -1,4 +1,4 @@
--- What is asked of a list of pairs, computed: each test is true exactly if what its name says holds. Assumes nothing.
+-- What is asked of a list of pairs, computed: each test is true exactly if what its name says holds.
 use mathlib.Core.Bool.{Bool, true, false, not, _&&_, _||_, Bool·beq}
 use mathlib.Core.List.{List, [], _∷_}
 use Prim.Native.Nat.{ℕ, zero, suc, _-_}
@@ -25,8 +25,8 @@ everyBelow f (suc n) = f n && everyBelow f n
 unfoldable pub above : List ℕ → ℕ → ℕ → Bool
 above l i j = leb (leaf l i) j && ltb j i
 
-unfoldable pub inside : List ℕ → ℕ → ℕ → Bool
-inside l i j = leb (leaf l i) j && leb j i
+unfoldable pub inSubtree : List ℕ → ℕ → ℕ → Bool
+inSubtree l i j = leb (leaf l i) j && leb j i
 
 -- Each node number is in its tree.
 unfoldable pub nodeIn : ℕ → ℕ → Pair → Bool
@@ -63,7 +63,7 @@ rooted Q T s = every (rootOf Q T (lastPair s)) s
 
 -- Node x is in the span of a list of nodes: one of them, or on a path from one of them up to the last.
 unfoldable pub spans : List ℕ → List ℕ → ℕ → Bool
-spans l xs x = some (eqb x) xs || (inside l (lastNode xs) x && some (inside l x) xs)
+spans l xs x = some (eqb x) xs || (inSubtree l (lastNode xs) x && some (inSubtree l x) xs)
 
 -- f is true of each child of a node whose subtree starts at lo, the children from e - 1 down; k is at least e.
 unfoldable pub children : (ℕ → Bool) → List ℕ → ℕ → ℕ → ℕ → Bool

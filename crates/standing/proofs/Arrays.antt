@@ -17,8 +17,8 @@ use Rattle.table.specs.Table.{nodesOf, pairsAt, rowAt, rowsOf, Kept}
 use Rattle.table.specs.declared.Table.{Table}
 use Rattle.table.proofs.Tables.{rows-length, row-there, q-length, t-length}
 use Rattle.standing.specs.Standing.{rankIn, numberAt, seedAt, Stood}
-use Rattle.standing.specs.Order.{lastOf, rankBy, Ordered}
-use Rattle.standing.specs.Stands.{masksOf, pairsBy, seedBy, Lawful, Related}
+use Rattle.standing.specs.inner.Order.{lastOf, rankBy, Ordered}
+use Rattle.standing.specs.inner.Stands.{masksOf, pairsBy, seedBy, Lawful, Related}
 use Rattle.standing.specs.declared.order.Order.{Order}
 use Rattle.standing.specs.declared.stands.Masks.{Masks}
 use Rattle.masks.proofs.Bits.{mask-same}

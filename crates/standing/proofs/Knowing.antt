@@ -13,7 +13,7 @@ use Rattle.seed.specs.AreaList.{left, under}
 use Rattle.seed.specs.declared.Pair.{Pair}
 use Rattle.optimum.specs.Key.{maskOf, inMask}
 use Rattle.optimum.proofs.Masks.{mask-self}
-use Rattle.standing.specs.Stands.{widenedBy, withSeed, standOf, Composed}
+use Rattle.standing.specs.inner.Stands.{widenedBy, masksWidened, standOf, Composed}
 use Rattle.standing.specs.declared.stands.Stand.{Stand}
 use Rattle.standing.specs.declared.stands.Masks.{Masks}
 use Rattle.masks.specs.Masks.{minus}
@@ -166,9 +166,9 @@ module _ (Q T : List ℕ) (seed : ℕ → List Pair) (w : List Pair) (lefts unde
         }
 
   -- The same of two masks at once.
-  module _ {rest : ℕ} {m m′ : Masks} (h : Known F G y rest (m .left) (m .under)) (few : y ≤ 64) (k : ℕ) (on : inMask rest k ≡ true) (st : Stand) (s : Pair) (e : st ≡ standOf Q T (s ∷ []) w) (g : s ∷ [] ≡ seed k) (f : m′ ≡ withSeed m st k (getD lefts k 0) (getD unders k 0)) where
-    with-is : m′ ≡ withSeed m (standOf Q T (seed k) w) k (getD lefts k 0) (getD unders k 0)
-    with-is = f ∙ ap (λ (x : Stand). withSeed m x k (getD lefts k 0) (getD unders k 0)) (e ∙ ap (λ (x : List Pair). standOf Q T x w) g)
+  module _ {rest : ℕ} {m m′ : Masks} (h : Known F G y rest (m .left) (m .under)) (few : y ≤ 64) (k : ℕ) (on : inMask rest k ≡ true) (st : Stand) (s : Pair) (e : st ≡ standOf Q T (s ∷ []) w) (g : s ∷ [] ≡ seed k) (f : m′ ≡ masksWidened m st k (getD lefts k 0) (getD unders k 0)) where
+    with-is : m′ ≡ masksWidened m (standOf Q T (seed k) w) k (getD lefts k 0) (getD unders k 0)
+    with-is = f ∙ ap (λ (x : Stand). masksWidened m x k (getD lefts k 0) (getD unders k 0)) (e ∙ ap (λ (x : List Pair). standOf Q T x w) g)
 
     pub known-with : {rest′ : ℕ} → rest′ ≡ minus rest (bitOr (bitOr (2 ^ k) (m′ .left)) (m′ .under)) → Known F G y rest′ (m′ .left) (m′ .under)
     known-with r = known-more h few k on (ap (λ (x : Masks). x .left) with-is) (ap (λ (x : Masks). x .under) with-is) r

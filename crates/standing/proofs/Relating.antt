@@ -17,7 +17,7 @@ use Rattle.seed.specs.Seed.{lastPair}
 use Rattle.seed.specs.declared.Pair.{Pair}
 use Rattle.optimum.specs.Key.{maskOf, inMask}
 use Rattle.table.specs.Table.{nodesOf}
-use Rattle.standing.specs.Stands.{standOf, masksOf, pairsBy, Lasts, alone, Composed, Lawful, Related}
+use Rattle.standing.specs.inner.Stands.{standOf, masksOf, pairsBy, Lasts, alone, Composed, Lawful, Related}
 use Rattle.standing.specs.declared.stands.Stand.{Stand}
 use Rattle.standing.specs.declared.stands.Masks.{Masks}
 use Rattle.masks.proofs.Bits.{mask-same, mask-says}

@@ -1,3 +1,4 @@
+-- What the contracts of public functions cite.
 pub mod Standing
-pub mod Order
-pub mod Stands
+-- What only the contracts of inner functions cite.
+pub mod inner

@@ -22,7 +22,7 @@ abbrev pub numberAt : List ℕ → ℕ → ℕ
 numberAt numbers k = getD numbers k 0
 
 -- The place of a number among the first m of a list.
-pub record Place (numbers : List ℕ) (m i : ℕ) : Type 0 where
+pub record PlaceInList (numbers : List ℕ) (m i : ℕ) : Type 0 where
   pub at : ℕ
   pub below : at < m
   pub holds : numberAt numbers at ≡ i
@@ -40,6 +40,6 @@ pub record Stood (Q T : List ℕ) (rows : List Row) (s : Standing) : Type 0 wher
   pub within : (k : ℕ) → k < s .count → numberAt (s .numbers) k < length rows
   pub present : (k : ℕ) → k < s .count → rowIn rows (numberAt (s .numbers) k) .present ≡ true
   pub rising : (j k : ℕ) → j < k → k < s .count → rankIn rows (numberAt (s .numbers) j) < rankIn rows (numberAt (s .numbers) k)
-  pub listed : (i : ℕ) → i < length rows → rowIn rows i .present ≡ true → Place (s .numbers) (s .count) i
+  pub listed : (i : ℕ) → i < length rows → rowIn rows i .present ≡ true → PlaceInList (s .numbers) (s .count) i
   pub left : (y : ℕ) → y < s .count → getD (s .lefts) y 0 ≡ maskOf (λ x. seed.left Q T (seedAt rows (s .numbers) x) (seedAt rows (s .numbers) y)) y
   pub under : (y : ℕ) → y < s .count → getD (s .unders) y 0 ≡ maskOf (λ x. seed.under Q T (seedAt rows (s .numbers) x) (seedAt rows (s .numbers) y)) y

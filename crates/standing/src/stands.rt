@@ -13,7 +13,7 @@ ghost use Prim.Native.Nat.{_^_, _≤_, _<_};
 ghost use lib.ListN.{getD};
 ghost use Rattle.seed.specs.Pairs.{pairOf, pairsOf};
 ghost use Rattle.seed.specs.Seed.{lastPair};
-ghost use Rattle.standing.specs.Stands.{standOf, masksOf, widenedBy, withSeed, alone, seedBy, Composed, Lawful, Related};
+ghost use Rattle.standing.specs.inner.Stands.{standOf, masksOf, widenedBy, masksWidened, alone, seedBy, Composed, Lawful, Related};
 
 // Whether a seed stands left of another, and whether under it.
 pub struct Stand {
@@ -81,7 +81,7 @@ fn last_in(rq: &[u8; 64], rt: &[u8; 64], k: usize) -> Pair
 // what is left of one that stands left is left too.
 fn with_seed(m: Masks, stand: Stand, k: usize, lefts: &[u64; 64], unders: &[u64; 64]) -> Masks
     requires { ⌜ k < 64 ⌝ }
-    ensures { λ r. ⌜ r ≡ withSeed m stand k (getD (now (lefts .entry)) k 0) (getD (now (unders .entry)) k 0) ⌝ }
+    ensures { λ r. ⌜ r ≡ masksWidened m stand k (getD (now (lefts .entry)) k 0) (getD (now (unders .entry)) k 0) ⌝ }
 {
     let before = lefts[k];
     let below = unders[k];

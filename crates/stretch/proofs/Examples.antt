@@ -1,4 +1,4 @@
--- The stretches of document 01's two structures, computed from the definitions. Assumes nothing.
+-- The stretches of document 01's two structures, computed from the definitions.
 use mathlib.Core.Path.{_≡_, refl}
 use mathlib.Core.List.{[], _∷_}
 use Rattle.answer.specs.Answer.{said}

@@ -9,7 +9,7 @@ use Rattle.answer.specs.declared.Place.the-variants.{Nothing}
 use Rattle.answer.proofs.Grounds.{ground, stops, goes-on}
 use Rattle.tree.specs.Run.{Run}
 use Rattle.tree.specs.Reading.{Reading, reading}
-use Rattle.tree.specs.Reading.Reading.{accepted, refused}
+use Rattle.tree.specs.Reading.Reading.{textAccepted, textRefused}
 use Rattle.tree.proofs.Grounds.{text-decides, accepted-spell, accepted-exactly}
 use Rattle.stretch.specs.Stretch.{Stretch, Found, stretchIn, locatedBy, checkOf}
 use Rattle.stretch.specs.Stretch.Found.{at, nowhere}
@@ -18,7 +18,7 @@ use Rattle.stretch.proofs.Stretches.{stretches, no-stretch}
 
 module _ (s : List ℕ) (a b : ℕ) where
   -- Ground 15, of a text that is accepted with a run: no other run spells it.
-  nodes-decide : (r : Run) → reading s ≡ accepted r → (x : Found) → stretchIn r a b ≡ x → Decides (GivenIf (¬ IsStretch s a b) 15 Nothing) (locatedBy x .answer)
+  nodes-decide : (r : Run) → reading s ≡ textAccepted r → (x : Found) → stretchIn r a b ≡ x → Decides (GivenIf (¬ IsStretch s a b) 15 Nothing) (locatedBy x .answer)
   nodes-decide r e (at k y) f =
       let w = accepted-spell s r e in
       let is : IsStretch s a b = record { run = r; spells = w .0; meant = w .1; before = k; items = y; stretch = stretches r a b k y .0 f } in
@@ -28,7 +28,7 @@ module _ (s : List ℕ) (a b : ℕ) where
       none : IsStretch s a b → ⊥
       none w =
           let text = accepted-exactly s r .0 e in
-          let other : reading s ≡ accepted (w .run) = accepted-exactly s (w .run) .1 (record { bytes = w .spells; meant = w .meant; some = text .some; few = text .few }) in
+          let other : reading s ≡ textAccepted (w .run) = accepted-exactly s (w .run) .1 (record { bytes = w .spells; meant = w .meant; some = text .some; few = text .few }) in
           let same : w .run ≡ r = cc in
           no-stretch r a b .0 f (w .before) (w .items) (subst (λ (q : Run). Stretch q a b (w .before) (w .items)) same (w .stretch))
 
@@ -37,5 +37,5 @@ module _ (s : List ℕ) (a b : ℕ) where
   check-decides = go (reading s) refl
     where
       go : (x : Reading) → reading s ≡ x → Decides (StretchSays s a b) (checkOf s a b)
-      go (accepted r) e = rw (e, checkOf) (goes-on (rw e at (text-decides s)) (nodes-decide r e (stretchIn r a b) refl))
-      go (refused g k) e = rw (e, checkOf) (stops (rw e at (text-decides s)))
+      go (textAccepted r) e = rw (e, checkOf) (goes-on (rw e at (text-decides s)) (nodes-decide r e (stretchIn r a b) refl))
+      go (textRefused g k) e = rw (e, checkOf) (stops (rw e at (text-decides s)))

@@ -9,9 +9,9 @@ use Rattle.tree.specs.Run.{Run, spell, size, join}
 use Rattle.tree.specs.Run.Run.{end, dot, pair}
 use Rattle.tree.specs.Reading.{meaningOf, Meant, Runs, runs}
 use Rattle.tree.specs.Reading.Runs.{last, more}
-use Rattle.stretch.specs.Scan.{endsOf}
+use Rattle.stretch.specs.inner.Scan.{endsOf}
 use Rattle.stretch.specs.Stretch.{Siblings}
-use Rattle.stretch.specs.Stretch.Siblings.{here, past-dot, into, past-pair}
+use Rattle.stretch.specs.Stretch.Siblings.{here, behind-dot, into, behind-pair}
 use Rattle.tree.specs.declared.character.Meaning.the-variants.{Closing}
 use Rattle.answer.proofs.Denied.{clash}
 use Rattle.tree.proofs.Splits.{size-spell}
@@ -34,7 +34,7 @@ pub record Stands (s : List ℕ) (y : Run) (a k : ℕ) : Type 0 where
 
 pub stands : {y r : Run} {a k : ℕ} → Meant r → Siblings y r a k → Stands (spell r) y a k
 stands {y = y} m (here z e) = record { front = []; back = spell z; split = ap spell e ∙ spell-join y z; start = refl; place = refl }
-stands m (past-dot {c = c} w) =
+stands m (behind-dot {c = c} w) =
     let v = stands (m .1) w in
     record { front = c ∷ v .front; back = v .back; split = ap (λ (l : List ℕ). c ∷ l) (v .split); start = omega (arith, ap endsOf (m .0), v .start); place = ap suc (v .place) }
 stands {y = y} m (into {o = o} {c = c} {r = r} w) =
@@ -46,7 +46,7 @@ stands {y = y} m (into {o = o} {c = c} {r = r} w) =
       start = omega (arith, ap endsOf (m .0), v .start);
       place = ap suc (v .place);
     }
-stands {y = y} m (past-pair {o = o} {i = i} {c = c} {r = r} {a = a} {k = k} w) =
+stands {y = y} m (behind-pair {o = o} {i = i} {c = c} {r = r} {a = a} {k = k} w) =
     let v = stands (m .3) w in
     record {
       front = o ∷ (spell i ++ c ∷ v .front);
@@ -92,7 +92,7 @@ module _ (y : Run) (my : Meant y) (h : 0 < size y) (o : ℕ) (i : Run) (c : ℕ)
       let a : size i + suc (ends t) ≡ ends (x ∷ (spell i ++ d ∷ t)) =
       omega (arith, ap endsOf (ap meaningOf ex ∙ m .0), ap endsOf ed, weight-append endsOf (spell i) (d ∷ t), ends-spell i (m .1)) in
       let n : suc (length (spell i) + suc (length t)) ≡ length (x ∷ (spell i ++ d ∷ t)) = omega (arith, length-append (spell i) (d ∷ t)) in
-      subst₂ (Siblings y (pair o i c r)) a n (past-pair w)
+      subst₂ (Siblings y (pair o i c r)) a n (behind-pair w)
 
   -- It cannot lie across the pair's closing byte.
   across : (p t u q : List ℕ) → spell i ≡ p ++ t → spell y ≡ t ++ u → 0 < length u → c ∷ spell r ≡ u ++ q → ⊥
@@ -128,7 +128,7 @@ neighbours y my h (dot d r) m [] q e = let w = starts y (dot d r) q my m e in he
 neighbours y my h (dot d r) m (x ∷ p) q e =
     let w = neighbours y my h r (m .1) p q (tail-eq-of-cons-eq e) in
     let a : suc (ends p) ≡ ends (x ∷ p) = omega (arith, ap endsOf (ap meaningOf (sym (head-eq-of-cons-eq e)) ∙ m .0)) in
-    subst (λ (k : ℕ). Siblings y (dot d r) k (suc (length p))) a (past-dot w)
+    subst (λ (k : ℕ). Siblings y (dot d r) k (suc (length p))) a (behind-dot w)
 neighbours y my h (pair o i c r) m [] q e = let w = starts y (pair o i c r) q my m e in here (w .0) (w .1)
 neighbours y my h (pair o i c r) m (x ∷ p) q e =
     in-pair y my h o i c r m (neighbours y my h i (m .1)) (neighbours y my h r (m .3)) p q (tail-eq-of-cons-eq e) x (sym (head-eq-of-cons-eq e))

@@ -7,7 +7,7 @@ use denote.Ref.{RefT, now}
 use Rattle.answer.specs.declared.Answer.the-variants.{Accepted}
 use Rattle.tree.specs.Run.{Run, spell}
 use Rattle.tree.specs.Reading.{Reading, reading}
-use Rattle.tree.specs.Reading.Reading.{accepted}
+use Rattle.tree.specs.Reading.Reading.{textAccepted}
 use Rattle.stretch.specs.Stretch.{Stretch, stretchIn, locatedBy, located, checkOf, spelled, part, partOf, HandsBack}
 use Rattle.stretch.specs.Stretch.Found.{at}
 use Rattle.stretch.specs.declared.search.Located.{Located}
@@ -16,7 +16,7 @@ use Rattle.stretch.proofs.Searches.{part-none}
 
 module _ {text r : RefT (List ℕ)} {a b : ℕ} (w : HandsBack text a b r) where
   -- A stretch with k bytes before it is handed back as the bytes behind them that spell it.
-  pub part-stretch : {x : Run} {k : ℕ} {y : Run} → reading (now text) ≡ accepted x → Stretch x a b k y → (now r ≡ spell y) × (r .ptr .0 ≡ text .ptr .0) × (r .ptr .1 ≡ text .ptr .1 + k)
+  pub part-stretch : {x : Run} {k : ℕ} {y : Run} → reading (now text) ≡ textAccepted x → Stretch x a b k y → (now r ≡ spell y) × (r .ptr .0 ≡ text .ptr .0) × (r .ptr .1 ≡ text .ptr .1 + k)
   unfolding partOf
   part-stretch {x = x} {k = k} {y = y} ok st =
       let found : stretchIn x a b ≡ at k y = stretches x a b k y .1 st in (

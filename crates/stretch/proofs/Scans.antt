@@ -1,4 +1,4 @@
--- The scan for a stretch: on a text with a part that spells the nodes a to b, it ends behind that part with the part's width. Assumes nothing.
+-- The scan for a stretch: on a text with a part that spells the nodes a to b, it ends behind that part with the part's width.
 use mathlib.Core.Path.{_≡_, refl, sym, ap, ap₂, subst, _∙_}
 use mathlib.Core.Bool.{Bool, true, false, cond, true≢false}
 use mathlib.Core.Logic.{⊎-elim}
@@ -13,7 +13,7 @@ use borrow.Author.Tests.{le-leb, lt-leb, lt-ltb, le-ltb}
 use Rattle.tree.specs.Run.{Run, spell, size}
 use Rattle.tree.specs.Run.Run.{end, dot, pair}
 use Rattle.tree.specs.Reading.{meaningOf, Meant}
-use Rattle.stretch.specs.Scan.{endsOf, bytesOf, counted, pickScan, unmoved, scanTo}
+use Rattle.stretch.specs.inner.Scan.{endsOf, ownBytes, counted, unmoved, scanTo}
 use Rattle.tree.specs.declared.character.Meaning.{Meaning}
 use Rattle.tree.specs.declared.character.Meaning.the-variants.{Unpaired, Opening, Closing, Refused}
 use Rattle.stretch.specs.declared.search.Scan.{Scan}
@@ -30,7 +30,7 @@ ends s = weight endsOf s
 
 -- The bytes of the nodes that end in a text.
 abbrev bytes : List ℕ → ℕ
-bytes s = weight bytesOf s
+bytes s = weight ownBytes s
 
 pub weight-append : (f : Meaning → ℕ) (a b : List ℕ) → weight f (a ++ b) ≡ weight f a + weight f b
 weight-append f [] b = omega arith
@@ -44,9 +44,9 @@ ends-spell (pair o i c r) m =
 
 bytes-spell : (r : Run) → Meant r → bytes (spell r) ≡ length (spell r)
 bytes-spell end m = refl
-bytes-spell (dot c r) m = omega (arith, ap bytesOf (m .0), bytes-spell r (m .1))
+bytes-spell (dot c r) m = omega (arith, ap ownBytes (m .0), bytes-spell r (m .1))
 bytes-spell (pair o i c r) m =
-    omega (arith, ap bytesOf (m .0), ap bytesOf (m .2), weight-append bytesOf (spell i) (c ∷ spell r), length-append (spell i) (c ∷ spell r), bytes-spell i (m .1), bytes-spell r (m .3))
+    omega (arith, ap ownBytes (m .0), ap ownBytes (m .2), weight-append ownBytes (spell i) (c ∷ spell r), length-append (spell i) (c ∷ spell r), bytes-spell i (m .1), bytes-spell r (m .3))
 
 pub one-end : (m : Meaning) → endsOf m ≤ 1
 one-end Unpaired = omega arith
@@ -54,7 +54,7 @@ one-end Opening = omega arith
 one-end Closing = omega arith
 one-end Refused = omega arith
 
-pub two-bytes : (m : Meaning) → bytesOf m ≤ 2 * endsOf m
+pub two-bytes : (m : Meaning) → ownBytes m ≤ 2 * endsOf m
 two-bytes Unpaired = omega arith
 two-bytes Opening = omega arith
 two-bytes Closing = omega arith
@@ -124,14 +124,14 @@ module _ (a : ℕ) where
   scanned-high : (c : Scan) (p : List ℕ) → a ≤ c .nodes → scanned a c p .width ≡ c .width + bytes p
   scanned-high c [] h = omega arith
   scanned-high c (x ∷ p) h =
-      omega (arith, scanned-high (counted a x c) p (omega arith), ap (λ (t : Bool). cond t (bytesOf (meaningOf x)) 0) (le-leb a (c .nodes) h))
+      omega (arith, scanned-high (counted a x c) p (omega arith), ap (λ (t : Bool). cond t (ownBytes (meaningOf x)) 0) (le-leb a (c .nodes) h))
 
   scanned-low : (c : Scan) (p : List ℕ) → c .nodes + ends p ≤ a → scanned a c p .width ≡ c .width
   scanned-low c [] h = refl
   scanned-low c (x ∷ p) h =
       omega (arith, scanned-low (counted a x c) p (omega arith), none (meaningOf x) (leb a (c .nodes)) (λ l. lt-leb a (c .nodes) (omega arith)))
     where
-      none : (m : Meaning) (t : Bool) → (0 < endsOf m → t ≡ false) → cond t (bytesOf m) 0 ≡ 0
+      none : (m : Meaning) (t : Bool) → (0 < endsOf m → t ≡ false) → cond t (ownBytes m) 0 ≡ 0
       none m true f = ⊎-elim (λ h. absurd (true≢false (f h))) (λ h. omega (arith, two-bytes m)) (lt-or-le 0 (endsOf m))
       none m false f = refl
 
@@ -139,10 +139,10 @@ module _ (a : ℕ) where
     -- The scan passes bytes while node b has not ended, and stops once it has.
     scan-stop : (c : Scan) (s : List ℕ) → b < c .nodes → scanTo a b c s ≡ c
     scan-stop c [] h = refl
-    scan-stop c (x ∷ s) h = ap (λ (k : Bool). pickScan k c (scanTo a b (counted a x c) s)) (lt-ltb b (c .nodes) h)
+    scan-stop c (x ∷ s) h = ap (λ (k : Bool). cond k c (scanTo a b (counted a x c) s)) (lt-ltb b (c .nodes) h)
 
     scan-next : (c : Scan) (x : ℕ) (s : List ℕ) → c .nodes ≤ b → scanTo a b c (x ∷ s) ≡ scanTo a b (counted a x c) s
-    scan-next c x s h = ap (λ (k : Bool). pickScan k c (scanTo a b (counted a x c) s)) (le-ltb b (c .nodes) h)
+    scan-next c x s h = ap (λ (k : Bool). cond k c (scanTo a b (counted a x c) s)) (le-ltb b (c .nodes) h)
 
     scan-pass : (c : Scan) (p s : List ℕ) → c .nodes + ends p ≤ b → scanTo a b c (p ++ s) ≡ scanTo a b (scanned a c p) s
     scan-pass c [] s h = refl
@@ -254,12 +254,12 @@ module _ (c : Scan) (a x : ℕ) (m : Meaning) (is : m ≡ meaningOf x) (e : ℕ)
 
   pub count-low : c .nodes < a → _≡_ {A = Scan} (record { at = c .at + 1; nodes = c .nodes + e; width = c .width }) (counted a x c)
   count-low h =
-      let w : c .width ≡ counted a x c .width = omega (arith, ap (λ (t : Bool). cond t (bytesOf (meaningOf x)) 0) (lt-leb a (c .nodes) h)) in
+      let w : c .width ≡ counted a x c .width = omega (arith, ap (λ (t : Bool). cond t (ownBytes (meaningOf x)) 0) (lt-leb a (c .nodes) h)) in
       λ j. record { at = c .at + 1; nodes = nodes-after j; width = w j }
 
-  pub count-high : a ≤ c .nodes → (n : ℕ) → n ≡ bytesOf m → _≡_ {A = Scan} (record { at = c .at + 1; nodes = c .nodes + e; width = c .width + n }) (counted a x c)
+  pub count-high : a ≤ c .nodes → (n : ℕ) → n ≡ ownBytes m → _≡_ {A = Scan} (record { at = c .at + 1; nodes = c .nodes + e; width = c .width + n }) (counted a x c)
   count-high h n own =
-      let w : c .width + n ≡ counted a x c .width = omega (arith, own ∙ ap bytesOf is, ap (λ (t : Bool). cond t (bytesOf (meaningOf x)) 0) (le-leb a (c .nodes) h)) in
+      let w : c .width + n ≡ counted a x c .width = omega (arith, own ∙ ap ownBytes is, ap (λ (t : Bool). cond t (ownBytes (meaningOf x)) 0) (le-leb a (c .nodes) h)) in
       λ j. record { at = c .at + 1; nodes = nodes-after j; width = w j }
 
 -- The loop that scans: what it knows at byte k, and each way on.
@@ -284,7 +284,7 @@ module _ (s : List ℕ) (a b : ℕ) where
     pub scan-goes-on : k < length s → c .nodes ≤ b → (d : Scan) → d ≡ counted a (getD s k 0) c → Scanning s a b d (k + 1)
     scan-goes-on lt few d e =
         let x : ℕ = getD s k 0 in
-        let own : cond (leb a (c .nodes)) (bytesOf (meaningOf x)) 0 ≤ 2 = at-most (meaningOf x) (leb a (c .nodes)) in
+        let own : cond (leb a (c .nodes)) (ownBytes (meaningOf x)) 0 ≤ 2 = at-most (meaningOf x) (leb a (c .nodes)) in
         record {
           inside = omega arith;
           rest = inv .rest ∙ ap (scanTo a b c) (drop-cons s k 0 lt) ∙ scan-next a b c x (drop (suc k) s) few ∙ ap₂ (λ (z : Scan) (j : ℕ). scanTo a b z (drop j s)) (sym e) (sym (add-one k));
@@ -293,6 +293,6 @@ module _ (s : List ℕ) (a b : ℕ) where
           here = omega (arith, ap (λ (z : Scan). z .at) e, inv .here);
         }
       where
-        at-most : (m : Meaning) (t : Bool) → cond t (bytesOf m) 0 ≤ 2
+        at-most : (m : Meaning) (t : Bool) → cond t (ownBytes m) 0 ≤ 2
         at-most m true = omega (arith, two-bytes m, one-end m)
         at-most m false = omega arith

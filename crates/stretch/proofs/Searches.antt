@@ -10,11 +10,11 @@ use Rattle.answer.specs.declared.Answer.the-variants.{Accepted}
 use Rattle.tree.specs.Run.{Run, spell, size, join}
 use Rattle.tree.specs.Run.Run.{end, dot, pair}
 use Rattle.tree.specs.Reading.{Meant, Reading, reading, readOf}
-use Rattle.tree.specs.Reading.Reading.{accepted, refused}
+use Rattle.tree.specs.Reading.Reading.{textAccepted, textRefused}
 use Rattle.stretch.specs.Stretch.{Siblings, Stretch, Found, stretchIn, locatedBy, located, locatedIn, spelled, part, partOf}
-use Rattle.stretch.specs.Stretch.Siblings.{here, past-dot, into, past-pair}
+use Rattle.stretch.specs.Stretch.Siblings.{here, behind-dot, into, behind-pair}
 use Rattle.stretch.specs.Stretch.Found.{at, nowhere}
-use Rattle.stretch.specs.Scan.{unmoved, scanTo, LocatedRight}
+use Rattle.stretch.specs.inner.Scan.{unmoved, scanTo, LocatedRight}
 use Rattle.stretch.specs.declared.search.Scan.{Scan}
 use Rattle.stretch.specs.declared.search.Located.{Located}
 use Rattle.tree.specs.declared.TreeRead.{TreeRead}
@@ -34,12 +34,12 @@ meant-join (pair o i c y) z m = (m .0, m .1, m .2, meant-join y z (m .3))
 
 meant-siblings : {y r : Run} {a k : ℕ} → Meant r → Siblings y r a k → Meant y
 meant-siblings {y = y} m (here z e) = meant-join y z (subst Meant e m)
-meant-siblings m (past-dot w) = meant-siblings (m .1) w
+meant-siblings m (behind-dot w) = meant-siblings (m .1) w
 meant-siblings m (into w) = meant-siblings (m .1) w
-meant-siblings m (past-pair w) = meant-siblings (m .3) w
+meant-siblings m (behind-pair w) = meant-siblings (m .3) w
 
 -- A text that is accepted with a run.
-module _ (s : List ℕ) (a b : ℕ) (r : Run) (ok : reading s ≡ accepted r) where
+module _ (s : List ℕ) (a b : ℕ) (r : Run) (ok : reading s ≡ textAccepted r) where
   text : s ≡ spell r
   text = accepted-spell s r ok .0
 
@@ -81,11 +81,11 @@ module _ (s : List ℕ) (a b : ℕ) (l : Located) where
       ∙ ap locatedBy (sym (stretches r a b (length (w .front)) (w .run) .1 (in-tree s a b r ok w)))
 
 -- What a reading that accepts says of its text.
-accepts : (x : Reading) → readOf x .answer ≡ Accepted → (y : Run) × (x ≡ accepted y)
-accepts (accepted y) e = (y, refl)
-accepts (refused g k) e = clash (cc)
+accepts : (x : Reading) → readOf x .answer ≡ Accepted → (y : Run) × (x ≡ textAccepted y)
+accepts (textAccepted y) e = (y, refl)
+accepts (textRefused g k) e = clash (cc)
 
-pub read-run : (s : List ℕ) (x : TreeRead) → x ≡ readOf (reading s) → x .answer ≡ Accepted → (y : Run) × (reading s ≡ accepted y) × (x .tree .n ≡ size y + 1)
+pub read-run : (s : List ℕ) (x : TreeRead) → x ≡ readOf (reading s) → x .answer ≡ Accepted → (y : Run) × (reading s ≡ textAccepted y) × (x .tree .n ≡ size y + 1)
 read-run s x is e =
     let w = accepts (reading s) (sym (ap (λ (k : TreeRead). k .answer) is) ∙ e) in
     (w .0, w .1, ap (λ (k : TreeRead). k .tree .n) (is ∙ ap readOf (w .1)))
@@ -111,7 +111,7 @@ module _ (s : List ℕ) (a b : ℕ) (l : Located) where
       reads-part short w =
           let n : 0 < length (spell (w .run)) = omega (arith, size-spell (w .run), w .count) in
           let m : length (spell (w .run)) ≤ 255 = omega (arith, scan-at a b s c is w, scan-inside a b s c is) in
-          let f : x ≡ readOf (accepted (w .run)) = read ∙ ap readOf (ap reading (scan-part a b s c is w) ∙ read-accepts (w .run) (w .meant) (length-fits (length (spell (w .run))) n m)) in
+          let f : x ≡ readOf (textAccepted (w .run)) = read ∙ ap readOf (ap reading (scan-part a b s c is w) ∙ read-accepts (w .run) (w .meant) (length-fits (length (spell (w .run))) n m)) in
           (ap (λ (k : TreeRead). k .answer) f, omega (arith, ap (λ (k : TreeRead). k .tree .n) f, w .count))
 
       pub search-unread : length s ≤ 255 → (x .answer ≡ Accepted → ⊥) → l ≡ locatedBy nowhere → LocatedRight s a b l
@@ -136,8 +136,8 @@ module _ (s : List ℕ) (a b : ℕ) (x : TreeRead) (is : x ≡ readOf (reading s
   locate-refused h e = go (reading s) refl
     where
       go : (y : Reading) → reading s ≡ y → l ≡ located (reading s) a b
-      go (accepted r) f = absurd (h (ap (λ (k : TreeRead). k .answer) (is ∙ ap readOf f)))
-      go (refused g k) f =
+      go (textAccepted r) f = absurd (h (ap (λ (k : TreeRead). k .answer) (is ∙ ap readOf f)))
+      go (textRefused g k) f =
           e
           ∙ ap (λ (y : Answer). record { answer = y; from = 0; to = 0 }) (ap (λ (z : TreeRead). z .answer) (is ∙ ap readOf f))
           ∙ ap (λ (z : Reading). located z a b) (sym f)
@@ -148,7 +148,7 @@ pub record PartOf (s : List ℕ) (a b : ℕ) (l : Located) : Type 0 where
   pub inside : l .to ≤ length s
   pub is : take (l .to - l .from) (drop (l .from) s) ≡ partOf s a b
 
-part-found : (s : List ℕ) (a b : ℕ) (r : Run) → reading s ≡ accepted r → (x : Found) → stretchIn r a b ≡ x → PartOf s a b (located (reading s) a b)
+part-found : (s : List ℕ) (a b : ℕ) (r : Run) → reading s ≡ textAccepted r → (x : Found) → stretchIn r a b ≡ x → PartOf s a b (located (reading s) a b)
 unfolding partOf
 part-found s a b r ok (at k y) e =
     let w = spelled-part s a b r ok (stretches r a b k y .0 e) in
@@ -169,8 +169,8 @@ unfolding partOf
 part-of s a b l is = subst (PartOf s a b) (sym is) (go (reading s) refl)
   where
     go : (x : Reading) → reading s ≡ x → PartOf s a b (locatedIn s a b)
-    go (accepted r) e = part-found s a b r e (stretchIn r a b) refl
-    go (refused g k) e =
+    go (textAccepted r) e = part-found s a b r e (stretchIn r a b) refl
+    go (textRefused g k) e =
         subst (PartOf s a b) (sym (ap (λ (z : Reading). located z a b) e))
         record { order = omega arith; inside = omega arith; is = sym (ap (λ (z : Reading). part z a b) e) }
 

@@ -1,6 +1,6 @@
 -- The search in the tree finds the stretch of the nodes a to b exactly if there is one.
 use mathlib.Core.Path.{_≡_, refl, sym, ap, subst, _∙_}
-use mathlib.Core.Bool.{Bool, true, false}
+use mathlib.Core.Bool.{Bool, true, false, cond}
 use mathlib.Core.Logic.{⊎-elim, _↔_}
 use Prim.Native.Nat.{ℕ, zero, suc, _+_, _-_, _≤_, _<_}
 use native.Mathlib.Omega.{arith}
@@ -10,18 +10,18 @@ use lib.Dec.{eqb, ltb, leb}
 use borrow.Author.Tests.{eq-eqb, ne-eqb, lt-ltb, le-ltb, le-leb, lt-leb}
 use Rattle.tree.specs.Run.{Run, spell, size, join}
 use Rattle.tree.specs.Run.Run.{end, dot, pair}
-use Rattle.stretch.specs.Stretch.{Siblings, Stretch, Found, pickFound, past, withDot, withPair, leading, nodesFrom, stretchIn}
-use Rattle.stretch.specs.Stretch.Siblings.{here, past-dot, into, past-pair}
+use Rattle.stretch.specs.Stretch.{Siblings, Stretch, Found, past, withDot, withPair, leading, nodesFrom, stretchIn}
+use Rattle.stretch.specs.Stretch.Siblings.{here, behind-dot, into, behind-pair}
 use Rattle.stretch.specs.Stretch.Found.{at, nowhere}
 use Rattle.answer.proofs.Denied.{clash}
 use Rattle.tree.proofs.Leaves.{lt-or-le}
 
 -- A search takes the one or the other way, by its test.
-yes : {t : Bool} (x y : Found) → t ≡ true → pickFound t x y ≡ x
-yes x y e = ap (λ (t : Bool). pickFound t x y) e
+yes : {t : Bool} (x y : Found) → t ≡ true → cond t x y ≡ x
+yes x y e = ap (λ (t : Bool). cond t x y) e
 
-no : {t : Bool} (x y : Found) → t ≡ false → pickFound t x y ≡ y
-no x y e = ap (λ (t : Bool). pickFound t x y) e
+no : {t : Bool} (x y : Found) → t ≡ false → cond t x y ≡ y
+no x y e = ap (λ (t : Bool). cond t x y) e
 
 -- What was found behind other bytes, or with one item more.
 past-at : (m : ℕ) (x : Found) (k : ℕ) (y : Run) → past m x ≡ at k y → (j : ℕ) × (x ≡ at j y) × (k ≡ m + j)
@@ -70,7 +70,7 @@ leads (dot c r) n k y e = ⊎-elim
     (eq-zero-or-pos n)
 leads (pair o i c r) n k y e =
     let X : Found = withPair o i c (leading r (n - suc (size i))) in
-    let Y : Found = pickFound (leb n (size i)) nowhere X in
+    let Y : Found = cond (leb n (size i)) nowhere X in
     ⊎-elim
     (λ z. leads-none (pair o i c r) n k y z (sym (yes (at 0 end) Y (eq-eqb n 0 z)) ∙ e))
     (λ p.
@@ -96,7 +96,7 @@ leading-joined (pair o i c y) z =
     let n : ℕ = size i + suc (size y) in
     let e : n - suc (size i) ≡ size y = omega arith in
     let X : Found = withPair o i c (leading (join y z) (n - suc (size i))) in
-    no (at 0 end) (pickFound (leb n (size i)) nowhere X) (ne-eqb n 0 (λ h. omega arith))
+    no (at 0 end) (cond (leb n (size i)) nowhere X) (ne-eqb n 0 (λ h. omega arith))
     ∙ no nowhere X (lt-leb n (size i) (omega arith))
     ∙ ap (λ (m : ℕ). withPair o i c (leading (join y z) m)) e
     ∙ ap (withPair o i c) (leading-joined y z)
@@ -107,10 +107,10 @@ module _ (o : ℕ) (i : Run) (c : ℕ) (r : Run) (a n : ℕ) where
   Inside = past 1 (nodesFrom i a n)
 
   abbrev Behind : Found
-  Behind = pickFound (ltb (size i) a) (past (length (spell i) + 2) (nodesFrom r (a - suc (size i)) n)) nowhere
+  Behind = cond (ltb (size i) a) (past (length (spell i) + 2) (nodesFrom r (a - suc (size i)) n)) nowhere
 
   abbrev Outside : Found
-  Outside = pickFound (eqb a 0) (leading (pair o i c r) n) Behind
+  Outside = cond (eqb a 0) (leading (pair o i c r) n) Behind
 
   from-inside : a + n ≤ size i → nodesFrom (pair o i c r) a n ≡ Inside
   from-inside h = yes Inside Outside (le-leb (a + n) (size i) h)
@@ -146,7 +146,7 @@ right (dot c r) (suc a) n k y e =
     let w = past-at 1 (nodesFrom r a n) k y e in
     let s = right r a n (w .0) y (w .1) in
     let f : suc (w .0) ≡ k = omega (arith, w .2) in
-    (subst (Siblings y (dot c r) (suc a)) f (past-dot (s .0)), s .1)
+    (subst (Siblings y (dot c r) (suc a)) f (behind-dot (s .0)), s .1)
 right (pair o i c r) a n k y e = ⊎-elim
     (λ l. ⊎-elim
     (λ z. right-start (pair o i c r) a n k y z (sym (from-start o i c r a n l z) ∙ e))
@@ -156,7 +156,7 @@ right (pair o i c r) a n k y e = ⊎-elim
     let s = right r (a - suc (size i)) n (w .0) y (w .1) in
     let f : suc (length (spell i) + suc (w .0)) ≡ k = omega (arith, w .2) in
     let g : size i + suc (a - suc (size i)) ≡ a = omega arith in
-    (subst (λ (j : ℕ). Siblings y (pair o i c r) j k) g (subst (Siblings y (pair o i c r) (size i + suc (a - suc (size i)))) f (past-pair (s .0))), s .1))
+    (subst (λ (j : ℕ). Siblings y (pair o i c r) j k) g (subst (Siblings y (pair o i c r) (size i + suc (a - suc (size i)))) f (behind-pair (s .0))), s .1))
     (λ b. let f = sym (from-across o i c r a n l p b) ∙ e in clash (cc))
     (lt-or-le (size i) a))
     (eq-zero-or-pos a))
@@ -175,9 +175,9 @@ size-join (pair o i c y) z = omega (arith, size-join y z)
 
 pub inside : {y r : Run} {a k : ℕ} → Siblings y r a k → a + size y ≤ size r
 inside {y = y} (here z e) = omega (arith, ap size e, size-join y z)
-inside (past-dot w) = omega (arith, inside w)
+inside (behind-dot w) = omega (arith, inside w)
 inside (into w) = omega (arith, inside w)
-inside (past-pair w) = omega (arith, inside w)
+inside (behind-pair w) = omega (arith, inside w)
 
 found-start : (y r z : Run) → 0 < size y → r ≡ join y z → nodesFrom r 0 (size y) ≡ at 0 y
 found-start end r z h e = absurd (omega arith)
@@ -189,11 +189,11 @@ found-start (pair o i c y) r z h e =
 
 found : {y r : Run} {a k : ℕ} → 0 < size y → Siblings y r a k → nodesFrom r a (size y) ≡ at k y
 found {y = y} {r = r} h (here z e) = found-start y r z h e
-found {y = y} h (past-dot {k = k} w) = let e : 1 + k ≡ suc k = omega arith in ap (past 1) (found h w) ∙ ap (λ (j : ℕ). at j y) e
+found {y = y} h (behind-dot {k = k} w) = let e : 1 + k ≡ suc k = omega arith in ap (past 1) (found h w) ∙ ap (λ (j : ℕ). at j y) e
 found {y = y} h (into {o = o} {i = i} {c = c} {r = r} {a = a} {k = k} w) =
     let e : 1 + k ≡ suc k = omega arith in
     from-inside o i c r a (size y) (inside w) ∙ ap (past 1) (found h w) ∙ ap (λ (j : ℕ). at j y) e
-found {y = y} h (past-pair {o = o} {i = i} {c = c} {r = r} {a = a} {k = k} w) =
+found {y = y} h (behind-pair {o = o} {i = i} {c = c} {r = r} {a = a} {k = k} w) =
     let e : length (spell i) + 2 + k ≡ suc (length (spell i) + suc k) = omega arith in
     let f : size i + suc a - suc (size i) ≡ a = omega arith in
     from-behind o i c r (size i + suc a) (size y) (omega arith)

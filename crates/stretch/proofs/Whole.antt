@@ -1,5 +1,5 @@
 -- By the leftmost leaves alone: the nodes a to b are a stretch exactly if no node of them starts before them and no node after them starts
--- within them. Assumes nothing.
+-- within them.
 use mathlib.Core.Path.{_≡_, refl, sym, ap, subst, _∙_}
 use mathlib.Core.Logic.{_↔_, ⊎-elim}
 use Prim.Native.Nat.{ℕ, zero, suc, _+_, _-_, _≤_, _<_}
@@ -12,7 +12,7 @@ use Rattle.tree.specs.Nested.{leaf}
 use Rattle.tree.specs.Node.{Item, itemNumber}
 use Rattle.tree.specs.Node.Item.{the-dot, the-pair, inside, past-dot, past-pair}
 use Rattle.stretch.specs.Stretch.{Siblings, Stretch}
-use Rattle.stretch.specs.Stretch.Siblings.{here, into, past-dot as after-dot, past-pair as after-pair}
+use Rattle.stretch.specs.Stretch.Siblings.{here, into, behind-dot as after-dot, behind-pair as after-pair}
 use Rattle.tree.proofs.Leaves.{lt-or-le, root-left}
 use Rattle.stretch.proofs.Stretches.{inside as within}
 use Rattle.tree.proofs.Nodes.{left, item-at, item-below, leaf-item}

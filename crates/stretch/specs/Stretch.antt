@@ -1,7 +1,6 @@
 -- Stretches (document 01, "Open areas"): runs of nodes that are whole subtrees of neighbouring siblings, and the bytes that spell one.
--- Assumes nothing.
 use mathlib.Core.Path.{_≡_}
-use mathlib.Core.Bool.{Bool, true, false}
+use mathlib.Core.Bool.{cond}
 use Prim.Native.Nat.{ℕ, zero, suc, _+_, _-_, _≤_}
 use mathlib.Core.List.{List, []}
 use lib.ListN.{length}
@@ -13,17 +12,17 @@ use Rattle.answer.specs.declared.Answer.{Answer}
 use Rattle.answer.specs.declared.Answer.the-variants.{Accepted, Refused}
 use Rattle.tree.specs.Run.{Run, spell, size, join}
 use Rattle.tree.specs.Run.Run.{end, dot, pair}
-use Rattle.tree.specs.Reading.{Reading, reading, answerOf}
-use Rattle.tree.specs.Reading.Reading.{accepted, refused}
+use Rattle.tree.specs.Reading.{Reading, reading, textAnswer}
+use Rattle.tree.specs.Reading.Reading.{textAccepted, textRefused}
 use Rattle.stretch.specs.declared.search.Located.{Located}
 
 -- The items of y are neighbours in the run r, or in the run inside a pair of it. Their first node is a, counted from r's first node, and
 -- k bytes of r's text stand before them.
 pub data Siblings (y : Run) : Run → ℕ → ℕ → Type 0 where
   here : {r : Run} (z : Run) → r ≡ join y z → Siblings y r 0 0
-  past-dot : {c : ℕ} {r : Run} {a k : ℕ} → Siblings y r a k → Siblings y (dot c r) (suc a) (suc k)
+  behind-dot : {c : ℕ} {r : Run} {a k : ℕ} → Siblings y r a k → Siblings y (dot c r) (suc a) (suc k)
   into : {o : ℕ} {i : Run} {c : ℕ} {r : Run} {a k : ℕ} → Siblings y i a k → Siblings y (pair o i c r) a (suc k)
-  past-pair : {o : ℕ} {i : Run} {c : ℕ} {r : Run} {a k : ℕ} → Siblings y r a k → Siblings y (pair o i c r) (size i + suc a) (suc (length (spell i) + suc k))
+  behind-pair : {o : ℕ} {i : Run} {c : ℕ} {r : Run} {a k : ℕ} → Siblings y r a k → Siblings y (pair o i c r) (size i + suc a) (suc (length (spell i) + suc k))
 
 -- The nodes a to b of the tree of r are a stretch: a is at most b, and they are the nodes of the items of y, with k bytes before them. The
 -- added root is no item, so that it is in no stretch.
@@ -32,14 +31,14 @@ pub record Stretch (r : Run) (a b : ℕ) (k : ℕ) (y : Run) : Type 0 where
   pub siblings : Siblings y r a k
   pub count : size y ≡ b - a + 1
 
+-- They are one, whatever its items and the bytes before them.
+abbrev pub SomeStretch : Run → ℕ → ℕ → Type 0
+SomeStretch r a b = (k : ℕ) × (y : Run) × Stretch r a b k y
+
 -- The same as a search: how many bytes stand before the items, and the items; or that the nodes are no stretch.
 pub data Found : Type 0 where
   at : ℕ → Run → Found
   nowhere : Found
-
-abbrev pub pickFound : Bool → Found → Found → Found
-pickFound true x y = x
-pickFound false x y = y
 
 -- The same items, with k bytes more before them.
 abbrev pub past : ℕ → Found → Found
@@ -57,11 +56,11 @@ withPair o i c nowhere = nowhere
 
 -- The items that a run begins with and that have n nodes.
 abbrev pub leading : Run → ℕ → Found
-leading end n = pickFound (eqb n 0) (at 0 end) nowhere
-leading (dot c r) n = pickFound (eqb n 0) (at 0 end) (withDot c (leading r (n - 1)))
+leading end n = cond (eqb n 0) (at 0 end) nowhere
+leading (dot c r) n = cond (eqb n 0) (at 0 end) (withDot c (leading r (n - 1)))
 leading (pair o i c r) n =
-    pickFound (eqb n 0) (at 0 end)
-    (pickFound (leb n (size i)) nowhere (withPair o i c (leading r (n - suc (size i)))))
+    cond (eqb n 0) (at 0 end)
+    (cond (leb n (size i)) nowhere (withPair o i c (leading r (n - suc (size i)))))
 
 -- The n nodes from a on: inside a pair, from the run's beginning, or behind its first item.
 abbrev pub nodesFrom : Run → ℕ → ℕ → Found
@@ -69,12 +68,12 @@ nodesFrom end a n = nowhere
 nodesFrom (dot c r) zero n = leading (dot c r) n
 nodesFrom (dot c r) (suc a) n = past 1 (nodesFrom r a n)
 nodesFrom (pair o i c r) a n =
-    pickFound (leb (a + n) (size i)) (past 1 (nodesFrom i a n))
-    (pickFound (eqb a 0) (leading (pair o i c r) n)
-    (pickFound (ltb (size i) a) (past (length (spell i) + 2) (nodesFrom r (a - suc (size i)) n)) nowhere))
+    cond (leb (a + n) (size i)) (past 1 (nodesFrom i a n))
+    (cond (eqb a 0) (leading (pair o i c r) n)
+    (cond (ltb (size i) a) (past (length (spell i) + 2) (nodesFrom r (a - suc (size i)) n)) nowhere))
 
 unfoldable pub stretchIn : Run → ℕ → ℕ → Found
-stretchIn r a b = pickFound (leb a b) (nodesFrom r a (b - a + 1)) nowhere
+stretchIn r a b = cond (leb a b) (nodesFrom r a (b - a + 1)) nowhere
 
 -- What is answered of nodes that are looked for, and the bytes that spell them: none where they are no stretch.
 abbrev pub locatedBy : Found → Located
@@ -82,8 +81,8 @@ locatedBy (at k y) = record { answer = Accepted; from = k; to = k + length (spel
 locatedBy nowhere = record { answer = Refused OutsideTree Nothing; from = 0; to = 0 }
 
 abbrev pub located : Reading → ℕ → ℕ → Located
-located (accepted r) a b = locatedBy (stretchIn r a b)
-located (refused g k) a b = record { answer = answerOf (refused g k); from = 0; to = 0 }
+located (textAccepted r) a b = locatedBy (stretchIn r a b)
+located (textRefused g k) a b = record { answer = textAnswer (textRefused g k); from = 0; to = 0 }
 
 abbrev pub locatedIn : List ℕ → ℕ → ℕ → Located
 locatedIn s a b = located (reading s) a b
@@ -98,8 +97,8 @@ spelled (at k y) = spell y
 spelled nowhere = []
 
 abbrev pub part : Reading → ℕ → ℕ → List ℕ
-part (accepted r) a b = spelled (stretchIn r a b)
-part (refused g k) a b = []
+part (textAccepted r) a b = spelled (stretchIn r a b)
+part (textRefused g k) a b = []
 
 unfoldable pub partOf : List ℕ → ℕ → ℕ → List ℕ
 partOf s a b = part (reading s) a b

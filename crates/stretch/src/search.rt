@@ -9,7 +9,7 @@ use tree::read;
 ghost use mathlib.Core.Path.{_≡_};
 ghost use Prim.Native.Nat.{_≤_, _<_};
 ghost use lib.ListN.{length};
-ghost use Rattle.stretch.specs.Scan.{endsOf, bytesOf, counted, unmoved, scanTo, LocatedRight};
+ghost use Rattle.stretch.specs.inner.Scan.{endsOf, ownBytes, counted, unmoved, scanTo, LocatedRight};
 ghost use Rattle.stretch.specs.Stretch.{Found, locatedBy, locatedIn};
 
 // How far a scan has come: the byte it stands at, the nodes that end before it, and the bytes of those from node a on.
@@ -40,7 +40,7 @@ fn ends_of(meaning: Meaning) -> usize
 
 // How many bytes the node has that a byte ends.
 fn bytes_of(meaning: Meaning) -> usize
-    ensures { λ r. ⌜ r ≡ bytesOf meaning ⌝ }
+    ensures { λ r. ⌜ r ≡ ownBytes meaning ⌝ }
 {
     match meaning {
         Meaning::Unpaired => 1,

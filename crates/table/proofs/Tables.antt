@@ -16,7 +16,7 @@ use Rattle.seed.specs.Seed.{lastPair}
 use Rattle.seed.specs.declared.Pair.{Pair}
 use Rattle.seed.proofs.PairLists.{count-first}
 use Rattle.seed.proofs.Tabs.{length-tab, getD-tab, tab-set, tab-more}
-use Rattle.table.specs.Rows.{Row, noRow, withScore, withPresence, pairCount, summaryOf}
+use Rattle.table.specs.Rows.{Row, noRow, withScore, withPresence, pairsInAll, summaryOf}
 use Rattle.table.specs.Table.{nodesOf, pairsAt, rowAt, rowsOf, noSeeds, Laid, HasRows}
 use Rattle.table.specs.declared.Table.{Table}
 use Rattle.table.proofs.Nodes.{between-length}
@@ -118,21 +118,21 @@ module _ (t : Table) (h : Laid t) where
   pairs-some i l = omega (arith, pairs-length i l, q-length i l, h .rising i l)
 
 -- How many pairs the rows have in all.
-pub count-more : (rows : List Row) (r : Row) → pairCount (rows ++ r ∷ []) ≡ pairCount rows + length (r .pairs)
-unfolding pairCount
+pub count-more : (rows : List Row) (r : Row) → pairsInAll (rows ++ r ∷ []) ≡ pairsInAll rows + length (r .pairs)
+unfolding pairsInAll
 count-more [] r = omega arith
 count-more (x ∷ rows) r = omega (arith, count-more rows r)
 
-count-below : (t : Table) → Laid t → (n : ℕ) → n ≤ t .seeds → pairCount (tab n (rowAt t)) ≡ getD (t .bounds) n 0
-unfolding tab pairCount rowAt
+count-below : (t : Table) → Laid t → (n : ℕ) → n ≤ t .seeds → pairsInAll (tab n (rowAt t)) ≡ getD (t .bounds) n 0
+unfolding tab pairsInAll rowAt
 count-below t h zero l = sym (h .first)
 count-below t h (suc n) l =
     let m : n < t .seeds = omega arith in
-    ap pairCount (tab-more n (rowAt t) (rowAt t) (λ i k. refl))
+    ap pairsInAll (tab-more n (rowAt t) (rowAt t) (λ i k. refl))
     ∙ count-more (tab n (rowAt t)) (rowAt t n)
     ∙ rw (← add-one n) (omega (arith, count-below t h n (omega arith), pairs-length t h n m, q-length t h n m, h .rising n m))
 
-pub rows-count : (t : Table) → Laid t → pairCount (rowsOf t) ≡ t .pairs
+pub rows-count : (t : Table) → Laid t → pairsInAll (rowsOf t) ≡ t .pairs
 unfolding rowsOf
 rows-count t h = count-below t h (t .seeds) (omega arith) ∙ h .last
 

@@ -50,9 +50,9 @@ withPresence r b = record { pairs = r .pairs; score = r .score; present = b }
 abbrev pub pairsOfRow : Row → List Pair
 pairsOfRow r = r .pairs
 
-unfoldable pub pairCount : List Row → ℕ
-pairCount [] = 0
-pairCount (r ∷ rs) = length (r .pairs) + pairCount rs
+unfoldable pub pairsInAll : List Row → ℕ
+pairsInAll [] = 0
+pairsInAll (r ∷ rs) = length (r .pairs) + pairsInAll rs
 
 -- The rows of the present seeds, by number.
 unfoldable pub presentRows : List Row → List Row

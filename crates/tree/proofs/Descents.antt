@@ -1,4 +1,4 @@
--- The run inside a bracket pair, read down to the first closing byte and up again. Assumes nothing.
+-- The run inside a bracket pair, read down to the first closing byte and up again.
 use mathlib.Core.Path.{_≡_, refl, sym, ap, ap₂, subst, _∙_}
 use mathlib.Core.Bool.{true, false}
 use mathlib.Core.Logic.{_⊎_, inl, inr}
@@ -8,10 +8,10 @@ use native.Mathlib.Omega.{arith}
 use mathlib.Core.List.{List}
 use lib.ListN.{length, getD, set, length-set}
 use Rattle.tree.specs.Reading.{meaningOf}
-use Rattle.tree.specs.Building.{Ready, RunRead, closing, withNode, withLeaf, nodesPast, leavesPast, Down, Descended}
+use Rattle.tree.specs.inner.Building.{Ready, RunRead, closing, withNode, withLeaf, nodesPast, leavesPast, Down, Descended}
 use Rattle.tree.specs.declared.character.Meaning.{Meaning}
 use Rattle.tree.specs.declared.character.Meaning.the-variants.{Unpaired, Opening, Closing, Refused}
-use Rattle.tree.specs.declared.run.Reached.{Reached}
+use Rattle.tree.specs.declared.run.ReadTo.{ReadTo}
 use Rattle.tree.proofs.Leaves.{lt-or-le}
 use Rattle.tree.proofs.Meanings.{tag}
 use Rattle.tree.proofs.Growing.{beyond, closed-inside, fewer-nodes, item-end, item-other, item-dot, item-unclosed, item-closed, run-done, run-more}
@@ -114,7 +114,7 @@ module _ (s : List ℕ) (at n : ℕ) (left : List ℕ) where
 
   -- ---- up: the run from p on is read
 
-  pub record Climbed (p m : ℕ) (here : Reached) (now : List ℕ) : Type 0 where
+  pub record Climbed (p m : ℕ) (here : ReadTo) (now : List ℕ) : Type 0 where
     pub bytes : ℕ
     pub reached : p ≡ at + bytes
     pub inside : p ≤ length s
@@ -123,11 +123,11 @@ module _ (s : List ℕ) (at n : ℕ) (left : List ℕ) where
     pub read : RunRead s p m (leavesPast s at n left bytes) here now
     pub kept : length now ≡ length left
 
-  moved : {p p′ m m′ : ℕ} {l l′ : List ℕ} {x : Reached} {now : List ℕ} → p ≡ p′ → m ≡ m′ → l ≡ l′ → RunRead s p m l x now → RunRead s p′ m′ l′ x now
+  moved : {p p′ m m′ : ℕ} {l l′ : List ℕ} {x : ReadTo} {now : List ℕ} → p ≡ p′ → m ≡ m′ → l ≡ l′ → RunRead s p m l x now → RunRead s p′ m′ l′ x now
   moved {p} {p′} {m} {m′} {l} {l′} {x} {now} e f g r =
       subst (λ (k : List ℕ). RunRead s p′ m′ k x now) g (subst (λ (k : ℕ). RunRead s p′ k l x now) f (subst (λ (k : ℕ). RunRead s k m l x now) e r))
 
-  pub climb-start : (x : Reached) (after : List ℕ) → Descended s at n left x after → Climbed (x .at) (x .n) x after
+  pub climb-start : (x : ReadTo) (after : List ℕ) → Descended s at n left x after → Climbed (x .at) (x .n) x after
   climb-start x after d =
       record {
         bytes = d .bytes;
@@ -139,7 +139,7 @@ module _ (s : List ℕ) (at n : ℕ) (left : List ℕ) where
         kept = ap length (d .written) ∙ leaves-long (d .bytes);
       }
 
-  module _ {p m : ℕ} {here : Reached} {now : List ℕ} (h : Climbed p m here now) where
+  module _ {p m : ℕ} {here : ReadTo} {now : List ℕ} (h : Climbed p m here now) where
     pub climb-few : n ≤ at → m ≤ p
     climb-few b = omega (arith, h .reached, h .counted, nodes-few (h .bytes))
 
@@ -222,10 +222,10 @@ module _ (s : List ℕ) (at n : ℕ) (left : List ℕ) where
         inner : RunRead s (p - 1 + 1) m (leavesPast s at n left k) here now
         inner = moved (omega arith) refl (leaves-back e) (h .read)
 
-        climbs : (y : Reached) (filled : List ℕ) → RunRead s (p - 1) m (leavesPast s at n left k) y filled → length filled ≡ length left → Climbed (p - 1) m y filled
+        climbs : (y : ReadTo) (filled : List ℕ) → RunRead s (p - 1) m (leavesPast s at n left k) y filled → length filled ≡ length left → Climbed (p - 1) m y filled
         climbs y filled r l = record { bytes = k; reached = back; inside = omega (arith, h .inside); down = down-less; counted = nodes-back e; read = r; kept = l }
 
-        pub climb-closed : closing (meaningOf (getD s (here .at) 0)) ≡ true → (y : Reached) (filled : List ℕ) → RunRead s (here .at + 1) (here .n + 1) (set now (here .n) m) y filled → length filled ≡ length left → Climbed (p - 1) m y filled
+        pub climb-closed : closing (meaningOf (getD s (here .at) 0)) ≡ true → (y : ReadTo) (filled : List ℕ) → RunRead s (here .at + 1) (here .n + 1) (set now (here .n) m) y filled → length filled ≡ length left → Climbed (p - 1) m y filled
         climb-closed c y filled r l =
             climbs y filled
             (run-more s (p - 1) m (leavesPast s at n left k) (record { at = here .at + 1; n = here .n + 1 }) (set now (here .n) m)

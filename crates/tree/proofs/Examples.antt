@@ -1,4 +1,4 @@
--- Document 01's two structures and texts at the grounds' edges, computed from the definitions. Assumes nothing.
+-- Document 01's two structures and texts at the grounds' edges, computed from the definitions.
 use mathlib.Core.Path.{_≡_, refl}
 use mathlib.Core.List.{List, [], _∷_, _++_, map}
 use Prim.Native.Nat.{ℕ}
@@ -7,7 +7,7 @@ use Rattle.answer.specs.Answer.{Said, said}
 use Rattle.answer.specs.Answer.Said.{accepted, refused}
 use Rattle.answer.specs.declared.Place.the-variants.{ByteInQ}
 use Rattle.tree.specs.Run.{lefts}
-use Rattle.tree.specs.Reading.{Reading, badLength, reading, answerOf}
+use Rattle.tree.specs.Reading.{Reading, badLength, reading, textAnswer}
 
 -- `(.(.)).` and `(.)(.)`.
 abbrev pub A : List ℕ
@@ -17,8 +17,8 @@ abbrev pub B : List ℕ
 B = 40 ∷ 46 ∷ 41 ∷ 40 ∷ 46 ∷ 41 ∷ []
 
 abbrev leftsOf : Reading → List ℕ
-leftsOf (Reading.accepted r) = lefts r
-leftsOf (Reading.refused g k) = []
+leftsOf (Reading.textAccepted r) = lefts r
+leftsOf (Reading.textRefused g k) = []
 
 -- The leftmost leaves of A and of B.
 left-A : leftsOf (reading A) ≡ 0 ∷ 1 ∷ 1 ∷ 0 ∷ 4 ∷ 0 ∷ []
@@ -57,6 +57,6 @@ rows =
     ∷ row (40 ∷ 41 ∷ 40 ∷ []) (refused 4 (ByteInQ 2))
     ∷ []
 
-texts : map (λ (x : Row). said (answerOf (reading (x .text)))) rows ≡ map (λ (x : Row). x .says) rows
+texts : map (λ (x : Row). said (textAnswer (reading (x .text)))) rows ≡ map (λ (x : Row). x .says) rows
 unfolding row rows reading badLength
 texts = refl

@@ -8,7 +8,8 @@ use native.Mathlib.Numerals.{add-one}
 use mathlib.Core.List.{List, [], _∷_, _++_, nil≢cons, head-eq-of-cons-eq, tail-eq-of-cons-eq}
 use lib.ListN.{length, getD, drop, length-append, drop-of-length-le}
 use lib.Seq.{drop-cons}
-use Rattle.tree.specs.Reading.{meaningOf, known, allKnown, orNext, firstRefused}
+use Rattle.tree.specs.Reading.{meaningOf, orNext, firstRefused}
+use Rattle.tree.specs.inner.Building.{known, allKnown}
 use Rattle.answer.specs.Grounds.{First, Never}
 use Rattle.tree.specs.Grounds.{UnknownByteAt}
 use Rattle.tree.specs.declared.character.Meaning.{Meaning}

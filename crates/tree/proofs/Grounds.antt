@@ -16,9 +16,9 @@ use Rattle.answer.specs.declared.Answer.the-variants.{Accepted, Refused}
 use Rattle.answer.proofs.Denied.{clash}
 use Rattle.answer.proofs.Grounds.{ground, ground-first, ground-never, stops, goes-on}
 use Rattle.tree.specs.Run.{Run, spell}
-use Rattle.tree.specs.Reading.{meaningOf, Meant, Spells, Runs, first, runs, Reading, reading, answerOf, badLength, firstRefused, stopped, groundAt}
+use Rattle.tree.specs.Reading.{meaningOf, Meant, Spells, Runs, first, runs, Reading, reading, textAnswer, badLength, firstRefused, stopped, groundAt}
 use Rattle.tree.specs.Reading.Runs.{last, more}
-use Rattle.tree.specs.Reading.Reading.{accepted, refused}
+use Rattle.tree.specs.Reading.Reading.{textAccepted, textRefused}
 use Rattle.tree.specs.Grounds.{UnknownByteAt, Closes, Closed, ClosesNothingAt, NeverClosedAt, LengthRefused, TextSays}
 use Rattle.tree.specs.declared.character.Meaning.{Meaning}
 use Rattle.tree.specs.declared.character.Meaning.the-variants.{Opening, Closing}
@@ -32,7 +32,7 @@ use Rattle.tree.proofs.Partners.{cut, closed-more, placed, placed-close
 use Rattle.tree.proofs.Texts.{read-length, read-unknown, read-stopped}
 
 abbrev Decided : List ℕ → Reading → Type 0
-Decided s x = Decides (TextSays s) (answerOf x)
+Decided s x = Decides (TextSays s) (textAnswer x)
 
 -- Ground 1, by its test.
 length-given : (s : List ℕ) → badLength (length s) ≡ true → Decides (GivenIf (LengthRefused s) 1 (ByteInQ 0)) (Refused TextLength (ByteInQ 0))
@@ -79,13 +79,13 @@ module _ (s : List ℕ) (fits : badLength (length s) ≡ false) (known : length 
   no-unclosed r m e k w =
       w .unclosed (opening-before r m [] (w .front) (w .byte) (w .back) (w .opening) (e ∙ sym (append-nil (spell r))) (w .split) (omega (arith, within s (w .front) (w .byte) (w .back) (w .split), ap length e)))
 
-  stopped-at : (r : Run) (c : ℕ) (t : List ℕ) → s ≡ spell r ++ c ∷ t → (m : Meaning) → meaningOf c ≡ m → stopped s r ≡ refused (groundAt m) (length (spell r))
+  stopped-at : (r : Run) (c : ℕ) (t : List ℕ) → s ≡ spell r ++ c ∷ t → (m : Meaning) → meaningOf c ≡ m → stopped s r ≡ textRefused (groundAt m) (length (spell r))
   stopped-at r c t e m k =
       let n : length (spell r) ≡ length s → ⊥ = λ h. omega (arith, ap length e, length-append (spell r) (c ∷ t)) in
-      let st : stopped s r ≡ refused (groundAt (meaningOf (getD s (length (spell r)) 0))) (length (spell r)) = rw (ne-eqb (length (spell r)) (length s) n) in
-      st ∙ ap (λ (x : Meaning). refused (groundAt x) (length (spell r))) (ap meaningOf (after s (spell r) (c ∷ t) e) ∙ k)
+      let st : stopped s r ≡ textRefused (groundAt (meaningOf (getD s (length (spell r)) 0))) (length (spell r)) = rw (ne-eqb (length (spell r)) (length s) n) in
+      st ∙ ap (λ (x : Meaning). textRefused (groundAt x) (length (spell r))) (ap meaningOf (after s (spell r) (c ∷ t) e) ∙ k)
 
-  stopped-end : (r : Run) → s ≡ spell r → stopped s r ≡ accepted r
+  stopped-end : (r : Run) → s ≡ spell r → stopped s r ≡ textAccepted r
   stopped-end r e = rw (eq-eqb (length (spell r)) (length s) (sym (ap length e)))
 
   -- Grounds 1 and 2 are not given.
@@ -114,7 +114,7 @@ module _ (s : List ℕ) (fits : badLength (length s) ≡ false) (known : length 
   known-decides = rw reads (run-decides (runs s) refl (splits s) (first-meant s))
 
 -- What is answered of a text is what its grounds say, and nothing else.
-pub text-decides : (s : List ℕ) → Decides (TextSays s) (answerOf (reading s))
+pub text-decides : (s : List ℕ) → Decides (TextSays s) (textAnswer (reading s))
 text-decides s = go (badLength (length s)) refl
   where
     go : (t : Bool) → badLength (length s) ≡ t → Decided s (reading s)
@@ -131,14 +131,14 @@ spell-known r m = ⊎-elim
     (λ h. h)
     (lt-or-le (firstRefused (spell r)) (length (spell r)))
 
-pub read-accepts : (r : Run) → Meant r → badLength (length (spell r)) ≡ false → reading (spell r) ≡ accepted r
+pub read-accepts : (r : Run) → Meant r → badLength (length (spell r)) ≡ false → reading (spell r) ≡ textAccepted r
 read-accepts r m fits =
     reads (spell r) fits (spell-known r m)
     ∙ ap (λ (x : Runs). stopped (spell r) (first x)) (read-spell r m)
     ∙ stopped-end (spell r) fits (spell-known r m) r refl
 
 -- A text is accepted with a run exactly if that run spells it.
-module _ (s : List ℕ) (r : Run) (e : reading s ≡ accepted r) where
+module _ (s : List ℕ) (r : Run) (e : reading s ≡ textAccepted r) where
   spelled-by : badLength (length s) ≡ false → length s ≤ firstRefused s → (t : List ℕ) → s ≡ spell (first (runs s)) ++ t → (s ≡ spell r) × Meant r
   spelled-by fits known [] f =
       let whole : s ≡ spell (first (runs s)) = f ∙ append-nil (spell (first (runs s))) in
@@ -156,7 +156,7 @@ module _ (s : List ℕ) (r : Run) (e : reading s ≡ accepted r) where
           (λ u. let w = begins s (runs s) (splits s) in let v = spelled-by h u (w .0) (w .1) in (v .0, v .1, h))
           (lt-or-le (firstRefused s) (length s))
 
-pub accepted-exactly : (s : List ℕ) (r : Run) → (reading s ≡ accepted r) ↔ Spells r s
+pub accepted-exactly : (s : List ℕ) (r : Run) → (reading s ≡ textAccepted r) ↔ Spells r s
 accepted-exactly s r = (
   λ e. let w = accepted-spell s r e in record { bytes = w .0; meant = w .1; some = length-some (length s) (w .2); few = length-few (length s) (w .2) },
   λ w. ap reading (w .bytes) ∙ read-accepts r (w .meant) (subst (λ (l : List ℕ). badLength (length l) ≡ false) (w .bytes) (length-fits (length s) (w .some) (w .few))),

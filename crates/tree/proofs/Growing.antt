@@ -13,10 +13,10 @@ use Rattle.tree.specs.Run.{Run, spell, size, leftsFrom}
 use Rattle.tree.specs.Run.Run.{end, dot, pair}
 use Rattle.tree.specs.Reading.{meaningOf, Runs, first, onto, runs}
 use Rattle.tree.specs.Reading.Runs.{last, more}
-use Rattle.tree.specs.Building.{runAt, itemOf, Ready, Grown, OpensAt, RunRead, ItemRead, closing}
+use Rattle.tree.specs.inner.Building.{runAt, itemOf, Ready, Built, OpensAt, RunRead, ItemRead, closing}
 use Rattle.tree.specs.declared.character.Meaning.{Meaning}
 use Rattle.tree.specs.declared.character.Meaning.the-variants.{Unpaired, Opening, Closing, Refused}
-use Rattle.tree.specs.declared.run.Reached.{Reached}
+use Rattle.tree.specs.declared.run.ReadTo.{ReadTo}
 use Rattle.answer.proofs.Denied.{clash}
 use Rattle.tree.proofs.Meanings.{tag}
 use Rattle.tree.proofs.Leaves.{lt-or-le, length-lefts}
@@ -88,7 +88,7 @@ pub closed-inside : (s : List ℕ) (i : ℕ) → closing (meaningOf (getD s i 0)
 closed-inside s i h = elim (lt-or-le i (length s)) [ inl l ↦ l | inr l ↦ absurd (false≢true (sym (ap (λ (b : ℕ). closing (meaningOf b)) (beyond s i l)) ∙ h)) ]
 
 -- What is read has no more nodes than bytes.
-pub fewer-nodes : {r : Run} {stuck : Type 0} {at n : ℕ} {left : List ℕ} {x : Reached} {after : List ℕ} → Grown r stuck at n left x after → n ≤ at → x .n ≤ x .at
+pub fewer-nodes : {r : Run} {stuck : Type 0} {at n : ℕ} {left : List ℕ} {x : ReadTo} {after : List ℕ} → Built r stuck at n left x after → n ≤ at → x .n ≤ x .at
 fewer-nodes {r} h le = omega (arith, size-spell r)
 
 module _ (s : List ℕ) (at n : ℕ) (left : List ℕ) where
@@ -98,8 +98,8 @@ module _ (s : List ℕ) (at n : ℕ) (left : List ℕ) where
   abbrev Next : List ℕ
   Next = drop (at + 1) s
 
-  reads : {x : Reached} {after : List ℕ} (r : Run) → itemOf (runAt s at) ≡ r → Grown r ((x .at ≡ at) × OpensAt s at) at n left x after → ItemRead s at n left x after
-  reads {x} {after} r e h = subst (λ (q : Run). Grown q ((x .at ≡ at) × OpensAt s at) at n left x after) (sym e) h
+  reads : {x : ReadTo} {after : List ℕ} (r : Run) → itemOf (runAt s at) ≡ r → Built r ((x .at ≡ at) × OpensAt s at) at n left x after → ItemRead s at n left x after
+  reads {x} {after} r e h = subst (λ (q : Run). Built q ((x .at ≡ at) × OpensAt s at) at n left x after) (sym e) h
 
   -- Nothing is read. The leaves are as they were, or what was never closed is an opening byte.
   stays : {after : List ℕ} → itemOf (runAt s at) ≡ end → ((OpensAt s at → ⊥) → after ≡ left) → ItemRead s at n left (record { at = at; n = n }) after
@@ -119,7 +119,7 @@ module _ (s : List ℕ) (at n : ℕ) (left : List ℕ) where
     pub item-dot : m ≡ Unpaired → ItemRead s at n left (record { at = at + 1; n = n + 1 }) (set left n n)
     item-dot e = reads (dot Byte end) (item-is ∙ ap (λ (k : Meaning). itemOf (first (onto k Byte (runs Next)))) e ∙ onto-dot Byte (runs Next)) (record { passed = refl; counted = refl; written = λ f. refl })
 
-    module _ (opens : m ≡ Opening) (x : Reached) (after : List ℕ) (inner : RunRead s (at + 1) n left x after) where
+    module _ (opens : m ≡ Opening) (x : ReadTo) (after : List ℕ) (inner : RunRead s (at + 1) n left x after) where
       opening-is : itemOf (runAt s at) ≡ itemOf (first (onto Opening Byte (runs Next)))
       opening-is = item-is ∙ ap (λ (k : Meaning). itemOf (first (onto k Byte (runs Next)))) opens
 
@@ -145,14 +145,14 @@ module _ (s : List ℕ) (at n : ℕ) (left : List ℕ) where
           })
 
   -- The run at a byte, in each case of the code that reads it.
-  module _ (x : Reached) (after : List ℕ) (item : ItemRead s at n left x after) where
+  module _ (x : ReadTo) (after : List ℕ) (item : ItemRead s at n left x after) where
     pub run-done : x .at ≡ at → RunRead s at n left x after
     run-done h =
         let e : runAt s at ≡ end = no-item (runAt s at) (omega (arith, item .passed)) in
-        subst (λ (r : Run). Grown r (OpensAt s (x .at)) at n left x after) (ap itemOf e ∙ sym e)
+        subst (λ (r : Run). Built r (OpensAt s (x .at)) at n left x after) (ap itemOf e ∙ sym e)
         (record { passed = item .passed; counted = item .counted; written = λ f. item .written (λ w. f (subst (OpensAt s) (sym h) (w .1))) })
 
-    pub run-more : (x .at ≡ at → ⊥) → (y : Reached) (filled : List ℕ) → RunRead s (x .at) (x .n) after y filled → RunRead s at n left y filled
+    pub run-more : (x .at ≡ at → ⊥) → (y : ReadTo) (filled : List ℕ) → RunRead s (x .at) (x .n) after y filled → RunRead s at n left y filled
     run-more ne y filled rest =
         let r : Run = runAt s at in
         let e : runAt s (x .at) ≡ restOf r = ap (runAt s) (item .passed) ∙ ap (λ (l : List ℕ). first (runs l)) (sym (drop-drop (length (spell (itemOf r))) at s)) ∙ rest-read (drop at s) in
@@ -170,7 +170,7 @@ module _ (s : List ℕ) (at n : ℕ) (left : List ℕ) where
     pub ready-inside : at < length s → Ready s (at + 1) n left
     ready-inside lt = record { short = ready .short; inside = omega arith; fewer = omega (arith, ready .fewer); room = ready .room }
 
-    ready-past : (x : Reached) (after : List ℕ) → ItemRead s at n left x after → length after ≡ length left → Ready s (x .at) (x .n) after
+    ready-past : (x : ReadTo) (after : List ℕ) → ItemRead s at n left x after → length after ≡ length left → Ready s (x .at) (x .n) after
     ready-past x after h e =
         let r : Run = runAt s at in
         record {
@@ -181,17 +181,17 @@ module _ (s : List ℕ) (at n : ℕ) (left : List ℕ) where
         }
 
 -- The items of a run are read up to the byte at `here`: a run can be read there, and once it is, the whole run is read.
-pub record ReadSoFar (s : List ℕ) (at n : ℕ) (left : List ℕ) (here : Reached) (after : List ℕ) : Type 0 where
+pub record ReadSoFar (s : List ℕ) (at n : ℕ) (left : List ℕ) (here : ReadTo) (after : List ℕ) : Type 0 where
   pub onward : at ≤ here .at
   pub kept : length after ≡ length left
   pub ready : Ready s (here .at) (here .n) after
-  pub whole : (x : Reached) (filled : List ℕ) → RunRead s (here .at) (here .n) after x filled → RunRead s at n left x filled
+  pub whole : (x : ReadTo) (filled : List ℕ) → RunRead s (here .at) (here .n) after x filled → RunRead s at n left x filled
 
 module _ (s : List ℕ) (at n : ℕ) (left : List ℕ) where
   pub run-starts : Ready s at n left → ReadSoFar s at n left (record { at = at; n = n }) left
   run-starts h = record { onward = omega arith; kept = refl; ready = h; whole = λ x filled r. r }
 
-  module _ (here : Reached) (after : List ℕ) (far : ReadSoFar s at n left here after) (x : Reached) (filled : List ℕ) (item : ItemRead s (here .at) (here .n) after x filled) where
+  module _ (here : ReadTo) (after : List ℕ) (far : ReadSoFar s at n left here after) (x : ReadTo) (filled : List ℕ) (item : ItemRead s (here .at) (here .n) after x filled) where
     pub run-ends : x .at ≡ here .at → RunRead s at n left x filled
     run-ends h = far .whole x filled (run-done s (here .at) (here .n) after x filled item h)
 

@@ -1,4 +1,4 @@
--- Leftmost leaves: how many, which, and that they are nested. Assumes nothing.
+-- Leftmost leaves: how many, which, and that they are nested.
 use mathlib.Core.Path.{_≡_, refl, ap, sym, subst, _∙_}
 use mathlib.Core.Logic.{_⊎_, inl, inr, ⊎-elim}
 use Prim.Native.Nat.{ℕ, zero, suc, _+_, _-_, _≤_, _<_}

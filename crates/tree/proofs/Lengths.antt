@@ -7,7 +7,7 @@ use native.Mathlib.Omega.{arith}
 use native.Mathlib.Nat.{eq-zero-or-pos}
 use lib.Dec.{ltb}
 use borrow.Author.Tests.{ltb-false, ltb-true, eq-eqb, ne-eqb, le-ltb, lt-ltb}
-use Rattle.answer.proofs.Tells.{Tells}
+use Rattle.answer.specs.Tells.{Tells}
 use Rattle.tree.specs.Reading.{badLength}
 
 pub empty : (n : ℕ) → n ≡ 0 → badLength n ≡ true

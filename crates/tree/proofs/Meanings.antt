@@ -6,7 +6,7 @@ use Prim.Native.Nat.{ℕ}
 use native.Mathlib.Omega.{arith}
 use Rattle.tree.specs.declared.character.Meaning.{Meaning}
 use Rattle.tree.specs.declared.character.Meaning.the-variants.{Unpaired, Opening, Closing, Refused}
-use Rattle.tree.specs.Building.{closing}
+use Rattle.tree.specs.inner.Building.{closing}
 use denote.Enum.Declared.{tagOf, declared}
 use Rattle.tree.proofs.character.Meaning.{enum}
 

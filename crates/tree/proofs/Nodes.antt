@@ -1,4 +1,4 @@
--- The nodes of a tree by their numbers: the postfix order, the ancestors, and the leftmost leaf. Assumes nothing.
+-- The nodes of a tree by their numbers: the postfix order, the ancestors, and the leftmost leaf.
 use mathlib.Core.Path.{_≡_, refl, ap, sym, _∙_}
 use mathlib.Core.Logic.{inl, inr, ⊎-elim, _↔_}
 use Prim.Native.Nat.{ℕ, zero, suc, _+_, _-_, _≤_, _<_}

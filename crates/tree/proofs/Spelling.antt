@@ -1,4 +1,4 @@
--- A run is read back from the text that spells it, and from no other run's text. Assumes nothing.
+-- A run is read back from the text that spells it, and from no other run's text.
 use mathlib.Core.Path.{_≡_, refl, sym, ap, ap₂, _∙_}
 use mathlib.Core.List.{List, [], _∷_, _++_, append-assoc, append-nil}
 use Prim.Native.Nat.{ℕ}

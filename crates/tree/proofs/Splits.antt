@@ -8,7 +8,7 @@ use lib.ListN.{length, getD, drop, length-append}
 use Rattle.tree.specs.Run.{Run, spell, size}
 use Rattle.tree.specs.Run.Run.{end, dot, pair}
 use Rattle.tree.specs.Reading.{meaningOf, Runs, first, onto, runs}
-use Rattle.tree.specs.Building.{itemOf}
+use Rattle.tree.specs.inner.Building.{itemOf}
 use Rattle.tree.specs.Reading.Runs.{last, more}
 use Rattle.tree.specs.declared.character.Meaning.{Meaning}
 use Rattle.tree.specs.declared.character.Meaning.the-variants.{Unpaired, Opening, Closing, Refused}

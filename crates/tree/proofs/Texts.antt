@@ -14,11 +14,11 @@ use Rattle.answer.specs.declared.Ground.the-variants.{TextLength, UnknownByte, 
 use Rattle.answer.specs.declared.Answer.the-variants.{Accepted}
 use Rattle.tree.specs.Run.{Run, spell, size, leftsFrom, lefts}
 use Rattle.tree.specs.Reading.{meaningOf, first, runs, firstRefused, badLength, groundAt, stopped, reading, readOf}
-use Rattle.tree.specs.Building.{Ready, OpensAt, RunRead}
-use Rattle.tree.specs.Reading.Reading.{accepted, refused}
+use Rattle.tree.specs.inner.Building.{Ready, OpensAt, RunRead}
+use Rattle.tree.specs.Reading.Reading.{textAccepted, textRefused}
 use Rattle.tree.specs.declared.character.Meaning.{Meaning}
 use Rattle.tree.specs.declared.character.Meaning.the-variants.{Unpaired, Opening, Closing, Refused}
-use Rattle.tree.specs.declared.run.Reached.{Reached}
+use Rattle.tree.specs.declared.run.ReadTo.{ReadTo}
 use Rattle.tree.specs.declared.TreeRead.{TreeRead}
 use Rattle.answer.proofs.Denied.{clash}
 use Rattle.tree.proofs.Meanings.{tag}
@@ -59,7 +59,7 @@ read-tree : (n n′ : ℕ) (l l′ : List ℕ) → n ≡ n′ → l ≡ l′ →
 read-tree n n′ l l′ p q = λ j. record { answer = Accepted; tree = record { n = p j + 1; left = q j } }
 
 module _ (s : List ℕ) where
-  pub read-length : badLength (length s) ≡ true → reading s ≡ refused TextLength 0
+  pub read-length : badLength (length s) ≡ true → reading s ≡ textRefused TextLength 0
   unfolding reading
   read-length h = rw h
 
@@ -73,7 +73,7 @@ module _ (s : List ℕ) where
     }
 
     module _ (u : ℕ) (unknown : u ≡ firstRefused s) where
-      pub read-unknown : u < length s → reading s ≡ refused UnknownByte u
+      pub read-unknown : u < length s → reading s ≡ textRefused UnknownByte u
       unfolding reading
       read-unknown h = rw (fits, ← unknown, lt-ltb u (length s) h)
 
@@ -82,7 +82,7 @@ module _ (s : List ℕ) where
         unfolding reading
         read-stopped = rw (fits, ← unknown, le-ltb u (length s) clean)
 
-        module _ (x : Reached) (left : List ℕ) (is : RunRead s 0 0 (zeros 256) x left) where
+        module _ (x : ReadTo) (left : List ℕ) (is : RunRead s 0 0 (zeros 256) x left) where
           at-stop : x .at ≡ length (spell (first (runs s)))
           at-stop = is .passed ∙ zero-add (length (spell (first (runs s))))
 
@@ -98,21 +98,21 @@ module _ (s : List ℕ) where
           pub read-all : x .at ≡ length s → _≡_ {A = TreeRead} (record { answer = Accepted; tree = record { n = x .n + 1; left = left } }) (readOf (reading s))
           read-all e =
               let r : Run = first (runs s) in
-              let st : stopped s r ≡ accepted r = rw (eq-eqb (length (spell r)) (length s) (sym at-stop ∙ e)) in
+              let st : stopped s r ≡ textAccepted r = rw (eq-eqb (length (spell r)) (length s) (sym at-stop ∙ e)) in
               read-tree (x .n) (size r) left (lefts r ++ zeros (255 - size r)) (is .counted ∙ zero-add (size r)) (is .written (end-opens s (x .at) e) ∙ padded 255 r few)
               ∙ sym (ap readOf (read-stopped ∙ st))
 
           module _ (ne : x .at ≡ length s → ⊥) (m : Meaning) (means : m ≡ meaningOf (getD s (x .at) 0)) where
-            at-other : reading s ≡ refused (groundAt m) (x .at)
+            at-other : reading s ≡ textRefused (groundAt m) (x .at)
             at-other =
                 let r : Run = first (runs s) in
-                let st : stopped s r ≡ refused (groundAt (meaningOf (getD s (length (spell r)) 0))) (length (spell r)) = rw (ne-eqb (length (spell r)) (length s) (λ h. ne (at-stop ∙ h))) in
+                let st : stopped s r ≡ textRefused (groundAt (meaningOf (getD s (length (spell r)) 0))) (length (spell r)) = rw (ne-eqb (length (spell r)) (length s) (λ h. ne (at-stop ∙ h))) in
                 read-stopped ∙ st
-                ∙ ap (λ (k : ℕ). refused (groundAt (meaningOf (getD s k 0))) k) (sym at-stop)
-                ∙ ap (λ (k : Meaning). refused (groundAt k) (x .at)) (sym means)
+                ∙ ap (λ (k : ℕ). textRefused (groundAt (meaningOf (getD s k 0))) k) (sym at-stop)
+                ∙ ap (λ (k : Meaning). textRefused (groundAt k) (x .at)) (sym means)
 
-            pub read-closing : m ≡ Closing → reading s ≡ refused ClosesNothing (x .at)
-            read-closing f = at-other ∙ ap (λ (k : Meaning). refused (groundAt k) (x .at)) f
+            pub read-closing : m ≡ Closing → reading s ≡ textRefused ClosesNothing (x .at)
+            read-closing f = at-other ∙ ap (λ (k : Meaning). textRefused (groundAt k) (x .at)) f
 
-            pub read-opening : (tag m ≡ 0) ⊎ ((tag m ≡ 1) ⊎ (tag m ≡ 3)) → reading s ≡ refused NeverClosed (x .at)
-            read-opening h = at-other ∙ ap (λ (k : Ground). refused k (x .at)) (ground-other m h)
+            pub read-opening : (tag m ≡ 0) ⊎ ((tag m ≡ 1) ⊎ (tag m ≡ 3)) → reading s ≡ textRefused NeverClosed (x .at)
+            read-opening h = at-other ∙ ap (λ (k : Ground). textRefused k (x .at)) (ground-other m h)

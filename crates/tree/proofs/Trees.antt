@@ -1,4 +1,4 @@
--- What a caller knows of a tree that a reading handed over. Assumes nothing.
+-- What a caller knows of a tree that a reading handed over.
 use mathlib.Core.Path.{_≡_, refl, sym, ap, subst, _∙_}
 use Prim.Native.Nat.{ℕ, _+_, _≤_}
 use native.Mathlib.Omega.{arith}
@@ -9,7 +9,7 @@ use Rattle.tree.specs.Run.{Run, spell, size, lefts}
 use Rattle.tree.specs.Run.Run.{end, dot, pair}
 use Rattle.tree.specs.Nested.{Nested}
 use Rattle.tree.specs.Reading.{Reading, reading, readOf, treeOf, single, leavesOf, IsTree}
-use Rattle.tree.specs.Reading.Reading.{accepted, refused}
+use Rattle.tree.specs.Reading.Reading.{textAccepted, textRefused}
 use Rattle.tree.specs.declared.Tree.{Tree}
 use Rattle.tree.specs.declared.TreeRead.{TreeRead}
 use Rattle.tree.proofs.Lengths.{length-some, length-few}
@@ -24,7 +24,7 @@ size-some (dot c r) h = omega arith
 size-some (pair o i c r) h = omega arith
 
 -- The tree of an accepted text has 2 to 256 nodes.
-pub accepted-nodes : (s : List ℕ) (r : Run) → reading s ≡ accepted r → (2 ≤ treeOf r .n) × (treeOf r .n ≤ 256)
+pub accepted-nodes : (s : List ℕ) (r : Run) → reading s ≡ textAccepted r → (2 ≤ treeOf r .n) × (treeOf r .n ≤ 256)
 accepted-nodes s r e =
     let w = accepted-spell s r e in
     let n = ap length (w .0) in
@@ -35,8 +35,8 @@ pub read-tree : (s : List ℕ) (x : TreeRead) → x ≡ readOf (reading s) → I
 read-tree s x e = subst (λ (y : TreeRead). IsTree (y .tree)) (sym e) (go (reading s) refl)
   where
     go : (y : Reading) → reading s ≡ y → IsTree (readOf y .tree)
-    go (accepted r) f = record { run = r; few = omega (arith, accepted-nodes s r f); is = refl }
-    go (refused g k) f = record { run = single; few = omega arith; is = refl }
+    go (textAccepted r) f = record { run = r; few = omega (arith, accepted-nodes s r f); is = refl }
+    go (textRefused g k) f = record { run = single; few = omega arith; is = refl }
 
 -- Its nodes are 1 to 256, their leftmost leaves are those of its run and nested, and the added root's is 0.
 module _ (t : Tree) (h : IsTree t) where

@@ -1,4 +1,4 @@
--- Lists of leftmost leaves in postfix numbering: what later crates know of a tree. Assumes nothing.
+-- Lists of leftmost leaves in postfix numbering: what later crates know of a tree.
 use Prim.Native.Nat.{ℕ, _≤_, _<_}
 use mathlib.Core.List.{List}
 use lib.ListN.{length, getD}

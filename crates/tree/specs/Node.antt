@@ -1,4 +1,4 @@
--- The nodes of a tree (document 01, "Structures as trees"): their order, their numbers, and who stands above whom. Assumes nothing.
+-- The nodes of a tree (document 01, "Structures as trees"): their order, their numbers, and who stands above whom.
 use mathlib.Core.Path.{_≡_}
 use mathlib.Core.Logic.{_⊎_}
 use Prim.Native.Nat.{ℕ, suc, _+_, _≤_}

@@ -1,6 +1,6 @@
--- What reading a text must answer (document 01, "Structures as trees", grounds 1 to 4). Assumes nothing.
+-- What reading a text must answer (document 01, "Structures as trees", grounds 1 to 4).
 use mathlib.Core.Path.{_≡_}
-use mathlib.Core.Bool.{Bool, true, false, cond, _&&_}
+use mathlib.Core.Bool.{Bool, true, cond}
 use Prim.Native.Nat.{ℕ, suc, _+_, _-_, _≤_, _<_}
 use mathlib.Core.List.{List, [], _∷_, _++_}
 use lib.ListN.{length, getD, take, replicate}
@@ -34,6 +34,40 @@ pub record Spells (r : Run) (s : List ℕ) : Type 0 where
   pub some : 0 < length s
   pub few : length s ≤ 255
 
+-- A text is accepted with its run, or refused on a ground at a byte.
+pub data Reading : Type 0 where
+  textAccepted : Run → Reading
+  textRefused : Ground → ℕ → Reading
+
+-- A call on one text names it Q.
+abbrev pub textAnswer : Reading → Answer
+textAnswer (textAccepted r) = answer.Accepted
+textAnswer (textRefused g k) = answer.Refused g (ByteInQ k)
+
+-- The tree of a run: its nodes and the added root, and zeros up to 256 numbers.
+abbrev pub treeOf : Run → Tree
+treeOf r = record { n = size r + 1; left = lefts r ++ replicate (255 - size r) 0 }
+
+-- The run that the text "." spells: its tree stands beside a refusal.
+abbrev pub single : Run
+single = dot 46 end
+
+abbrev pub readOf : Reading → TreeRead
+readOf (textAccepted r) = record { answer = textAnswer (textAccepted r); tree = treeOf r }
+readOf (textRefused g k) = record { answer = textAnswer (textRefused g k); tree = treeOf single }
+
+-- The leftmost leaves of a tree's nodes.
+abbrev pub leavesOf : Tree → List ℕ
+leavesOf t = take (t .n) (t .left)
+
+-- A tree that a reading hands over.
+pub record IsTree (t : Tree) : Type 0 where
+  pub run : Run
+  pub few : size run ≤ 255
+  pub is : t ≡ treeOf run
+
+-- Reading a text, computed.
+
 -- The runs that a text splits into at the closing bytes that close nothing in it. What follows the last run is the end of the text, an
 -- opening byte that is never closed, or a refused byte.
 pub data Runs : Type 0 where
@@ -58,17 +92,6 @@ abbrev pub runs : List ℕ → Runs
 runs [] = last end
 runs (c ∷ s) = onto (meaningOf c) c (runs s)
 
--- Whether a byte of some meaning is not refused, and whether no byte of a text is.
-abbrev pub known : Meaning → Bool
-known Unpaired = true
-known Opening = true
-known Closing = true
-known Refused = false
-
-abbrev pub allKnown : List ℕ → Bool
-allKnown [] = true
-allKnown (c ∷ s) = known (meaningOf c) && allKnown s
-
 -- Where the first refused byte stands, or the text's length.
 abbrev pub orNext : Meaning → ℕ → ℕ
 orNext Unpaired n = suc n
@@ -79,15 +102,6 @@ orNext Refused n = 0
 abbrev pub firstRefused : List ℕ → ℕ
 firstRefused [] = 0
 firstRefused (c ∷ s) = orNext (meaningOf c) (firstRefused s)
-
--- A text is accepted with its run, or refused on a ground at a byte.
-pub data Reading : Type 0 where
-  accepted : Run → Reading
-  refused : Ground → ℕ → Reading
-
-abbrev pub pick : Bool → Reading → Reading → Reading
-pick true x y = x
-pick false x y = y
 
 -- The length on which ground 1 turns a text down: 0 or above 255.
 unfoldable pub badLength : ℕ → Bool
@@ -102,36 +116,9 @@ groundAt Refused = NeverClosed
 
 -- The run that a text begins with is all of it, or stops at a closing byte that closes nothing or an opening one that is never closed.
 abbrev pub stopped : List ℕ → Run → Reading
-stopped s r = pick (eqb (length (spell r)) (length s)) (accepted r) (refused (groundAt (meaningOf (getD s (length (spell r)) 0))) (length (spell r)))
+stopped s r = cond (eqb (length (spell r)) (length s)) (textAccepted r) (textRefused (groundAt (meaningOf (getD s (length (spell r)) 0))) (length (spell r)))
 
 unfoldable pub reading : List ℕ → Reading
 reading s =
-    pick (badLength (length s)) (refused TextLength 0)
-    (pick (ltb (firstRefused s) (length s)) (refused UnknownByte (firstRefused s)) (stopped s (first (runs s))))
-
--- The tree of a run: its nodes and the added root, and zeros up to 256 numbers.
-abbrev pub treeOf : Run → Tree
-treeOf r = record { n = size r + 1; left = lefts r ++ replicate (255 - size r) 0 }
-
--- The run that the text "." spells: its tree stands beside a refusal.
-abbrev pub single : Run
-single = dot 46 end
-
--- A call on one text names it Q.
-abbrev pub answerOf : Reading → Answer
-answerOf (accepted r) = answer.Accepted
-answerOf (refused g k) = answer.Refused g (ByteInQ k)
-
-abbrev pub readOf : Reading → TreeRead
-readOf (accepted r) = record { answer = answerOf (accepted r); tree = treeOf r }
-readOf (refused g k) = record { answer = answerOf (refused g k); tree = treeOf single }
-
--- The leftmost leaves of a tree's nodes.
-abbrev pub leavesOf : Tree → List ℕ
-leavesOf t = take (t .n) (t .left)
-
--- A tree that a reading hands over.
-pub record IsTree (t : Tree) : Type 0 where
-  pub run : Run
-  pub few : size run ≤ 255
-  pub is : t ≡ treeOf run
+    cond (badLength (length s)) (textRefused TextLength 0)
+    (cond (ltb (firstRefused s) (length s)) (textRefused UnknownByte (firstRefused s)) (stopped s (first (runs s))))

@@ -1,4 +1,4 @@
--- Structures (document 01, "Structures as trees"): runs of items, the text that spells one, and the leftmost leaves. Assumes nothing.
+-- Structures (document 01, "Structures as trees"): runs of items, the text that spells one, and the leftmost leaves.
 use Prim.Native.Nat.{ℕ, suc, _+_}
 use mathlib.Core.List.{List, [], _∷_, _++_}
 

@@ -1,7 +1,8 @@
 // What the bytes of a text mean.
 ghost use mathlib.Core.Path.{_≡_};
 ghost use mathlib.Core.Bool.{_&&_};
-ghost use Rattle.tree.specs.Reading.{meaningOf, known, allKnown, firstRefused};
+ghost use Rattle.tree.specs.Reading.{meaningOf, firstRefused};
+ghost use Rattle.tree.specs.inner.Building.{known, allKnown};
 
 pub enum Meaning {
     Unpaired,

@@ -43,7 +43,7 @@ pub fn single_tree() -> Tree
 }
 
 fn refused(ground: Ground, at: usize) -> TreeRead
-    ensures { λ r. ⌜ r ≡ readOf (Reading.refused ground at) ⌝ }
+    ensures { λ r. ⌜ r ≡ readOf (Reading.textRefused ground at) ⌝ }
 {
     TreeRead {
         answer: answer::refused(ground, Place::ByteInQ(at)),

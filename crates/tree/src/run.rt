@@ -1,24 +1,26 @@
-// Reading a run of items: a run and an item call each other, with fewer bytes left at each call.
+// Reading a run of items: a run and an item call each other, by way of the run inside a bracket pair and of the rest behind one. The bytes left to
+// read fall from an item to what is inside it, and from there to the rest behind; from a rest to its run and from a run to an item they stay. So
+// what falls at each call is three times the bytes left, with two more for a rest and one more for a run.
 use super::character::Meaning;
 use super::character::meaning_of;
 ghost use mathlib.Core.Path.{_≡_};
 ghost use lib.ListN.{getD};
 ghost use Rattle.tree.specs.Reading.{meaningOf};
-ghost use Rattle.tree.specs.Building.{Ready, RunRead, ItemRead, Descended, closing};
+ghost use Rattle.tree.specs.inner.Building.{Ready, RunRead, ItemRead, Descended, closing};
 
 // How far a text is read: up to the byte at `at`, with n nodes before it.
-pub struct Reached {
+pub struct ReadTo {
     pub at: usize,
     pub n: usize,
 }
 
 // The run at a byte, as far as it goes. The n nodes before it have their leftmost leaves in `left`, and its own are written behind them. Its
 // items are read in a loop, so that an item behind another makes no call go deeper.
-pub fn read_run(text: &[u8], at: usize, n: usize, left: &mut [u8]) -> Reached
+pub fn read_run(text: &[u8], at: usize, n: usize, left: &mut [u8]) -> ReadTo
     requires { ⌜ Ready (now text) at n (now left) ⌝ }
     ensures { λ r. ⌜ RunRead (now (text .entry)) at n (now (left .entry)) r (now (left .exit)) ⌝ }
 {
-    let mut here = Reached { at, n };
+    let mut here = ReadTo { at, n };
     loop {
         let item = read_item(text, here.at, here.n, left);
         if item.at == here.at {
@@ -29,18 +31,18 @@ pub fn read_run(text: &[u8], at: usize, n: usize, left: &mut [u8]) -> Reached
 }
 
 // The item at a byte. Where there is none, or it is never closed, nothing is read, though leaves inside it may be written.
-fn read_item(text: &[u8], at: usize, n: usize, left: &mut [u8]) -> Reached
+fn read_item(text: &[u8], at: usize, n: usize, left: &mut [u8]) -> ReadTo
     requires { ⌜ Ready (now text) at n (now left) ⌝ }
     ensures { λ r. ⌜ ItemRead (now (text .entry)) at n (now (left .entry)) r (now (left .exit)) ⌝ }
 {
     if text.len() <= at {
-        return Reached { at, n };
+        return ReadTo { at, n };
     }
     let meaning = meaning_of(text[at]);
     match meaning {
         Meaning::Unpaired => {
             left[n] = n as u8;
-            Reached {
+            ReadTo {
                 at: at + 1,
                 n: n + 1,
             }
@@ -49,16 +51,16 @@ fn read_item(text: &[u8], at: usize, n: usize, left: &mut [u8]) -> Reached
             let inner = read_inside(text, at + 1, n, left);
             let close = inner.at;
             if !closes(text, close) {
-                return Reached { at, n };
+                return ReadTo { at, n };
             }
             let node = inner.n;
             left[node] = n as u8;
-            Reached {
+            ReadTo {
                 at: close + 1,
                 n: node + 1,
             }
         }
-        _ => Reached { at, n },
+        _ => ReadTo { at, n },
     }
 }
 
@@ -77,7 +79,7 @@ fn closes(text: &[u8], at: usize) -> bool
 }
 
 // Passes the dots and the opening bytes from a byte on, as far as they go, and writes the leaves of the dots.
-fn descend(text: &[u8], at: usize, n: usize, left: &mut [u8]) -> Reached
+fn descend(text: &[u8], at: usize, n: usize, left: &mut [u8]) -> ReadTo
     requires { ⌜ Ready (now text) at n (now left) ⌝ }
     ensures { λ r. ⌜ Descended (now (text .entry)) at n (now (left .entry)) r (now (left .exit)) ⌝ }
 {
@@ -91,16 +93,16 @@ fn descend(text: &[u8], at: usize, n: usize, left: &mut [u8]) -> Reached
                 m += 1;
             }
             Meaning::Opening => {}
-            _ => return Reached { at: i, n: m },
+            _ => return ReadTo { at: i, n: m },
         }
         i += 1;
     }
-    Reached { at: i, n: m }
+    ReadTo { at: i, n: m }
 }
 
 // The run inside a bracket pair. The brackets that open before one is closed are passed first, and then closed from the last on, each with the
 // rest of the run that it stands in: so they make no call go deeper.
-fn read_inside(text: &[u8], at: usize, n: usize, left: &mut [u8]) -> Reached
+fn read_inside(text: &[u8], at: usize, n: usize, left: &mut [u8]) -> ReadTo
     requires { ⌜ Ready (now text) at n (now left) ⌝ }
     ensures { λ r. ⌜ RunRead (now (text .entry)) at n (now (left .entry)) r (now (left .exit)) ⌝ }
 {
@@ -120,7 +122,7 @@ fn read_inside(text: &[u8], at: usize, n: usize, left: &mut [u8]) -> Reached
                     left[node] = m as u8;
                     here = read_rest(text, here.at + 1, node + 1, left);
                 } else {
-                    here = Reached { at: p, n: m };
+                    here = ReadTo { at: p, n: m };
                 }
             }
         }
@@ -129,12 +131,12 @@ fn read_inside(text: &[u8], at: usize, n: usize, left: &mut [u8]) -> Reached
 }
 
 // The rest of a run behind a bracket pair. Often there is none, and then nothing is called.
-fn read_rest(text: &[u8], at: usize, n: usize, left: &mut [u8]) -> Reached
+fn read_rest(text: &[u8], at: usize, n: usize, left: &mut [u8]) -> ReadTo
     requires { ⌜ Ready (now text) at n (now left) ⌝ }
     ensures { λ r. ⌜ RunRead (now (text .entry)) at n (now (left .entry)) r (now (left .exit)) ⌝ }
 {
     if closes(text, at) {
-        return Reached { at, n };
+        return ReadTo { at, n };
     }
     read_run(text, at, n, left)
 }

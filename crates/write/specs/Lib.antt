@@ -1,3 +1,4 @@
+-- What a reader believes, in document 01's order.
 pub mod Wrote
-pub mod Puts
 pub mod Decimal
+pub mod Puts

@@ -4,7 +4,7 @@ use Prim.Native.Nat.{_≤_, _-_}
 use native.Mathlib.Omega.{arith}
 use lib.ListN.{length}
 use borrow.Author.Needs.{needs}
-use Rattle.area.specs.Gaps.{gap, filled}
+use Rattle.area.specs.inner.Gaps.{gap, filled}
 use Rattle.area.proofs.GapSteps.{fill-start, fill-next, fill-end}
 use Rattle.area.proofs.gaps_of.Statement.{statement}
 use Rattle.area.proofs.gaps_of.Tie as tie

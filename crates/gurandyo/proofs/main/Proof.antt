@@ -1,4 +1,4 @@
--- `gurandyo::main` lends the memory that a run asks for. Assumes nothing.
+-- `gurandyo::main` lends the memory that a run asks for.
 use native.Mathlib.Omega.{arith}
 use Rattle.report.proofs.Reports.{lines-short}
 use borrow.Author.Needs.{needs}

@@ -1,4 +1,4 @@
--- `gurandyo::put_report` meets its contract: on the memory that it asks for a report is never refused. Assumes nothing.
+-- `gurandyo::put_report` meets its contract: on the memory that it asks for a report is never refused.
 use Rattle.report.proofs.Reports.{reported-within, reported-lines}
 use borrow.Author.Needs.{needs}
 use Rattle.gurandyo.proofs.put_report.Statement.{statement}

@@ -1,4 +1,4 @@
--- `gurandyo::run` meets its contract: what is printed is the lines of what was read. Assumes nothing.
+-- `gurandyo::run` meets its contract: what is printed is the lines of what was read.
 use mathlib.Core.Path.{sym}
 use lib.Seq.{length-take-le}
 use borrow.Author.Needs.{needs}

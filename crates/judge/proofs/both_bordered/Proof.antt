@@ -1,4 +1,4 @@
--- `judge::both_bordered` meets its contract. Assumes nothing.
+-- `judge::both_bordered` meets its contract.
 use mathlib.Core.Path.{sym, _∙_}
 use Rattle.seed.specs.Tests.{bordered}
 use Rattle.judge.proofs.Roots.{listed-q, listed-t, whole-no, whole-by}

@@ -1,4 +1,4 @@
--- `judge::both_rise` meets its contract. Assumes nothing.
+-- `judge::both_rise` meets its contract.
 use mathlib.Core.Path.{sym, _∙_}
 use borrow.Author.Needs.{needs}
 use Rattle.seed.specs.Tests.{rises}

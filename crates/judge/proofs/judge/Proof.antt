@@ -1,4 +1,4 @@
--- `judge::judge` meets its contract: both trees are nested. Assumes nothing.
+-- `judge::judge` meets its contract: both trees are nested.
 use mathlib.Core.Path.{sym}
 use borrow.Author.Needs.{needs}
 use Rattle.tree.proofs.Trees.{tree-length, tree-nested}

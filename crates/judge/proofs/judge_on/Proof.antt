@@ -1,4 +1,4 @@
--- `judge::judge_on` meets its contract: one law for each way out. Assumes nothing.
+-- `judge::judge_on` meets its contract: one law for each way out.
 use mathlib.Core.Path.{sym, _∙_}
 use borrow.Author.Needs.{needs}
 use borrow.Author.Tests.{not-true, not-false}

@@ -1,4 +1,4 @@
--- `judge::nodes_in` meets its contract: what the scan has passed was in the trees, so the answer is that of the rest. Assumes nothing.
+-- `judge::nodes_in` meets its contract: what the scan has passed was in the trees, so the answer is that of the rest.
 use mathlib.Core.Path.{sym}
 use Prim.Native.Nat.{_-_}
 use native.Mathlib.Omega.{arith}

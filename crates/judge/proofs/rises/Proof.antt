@@ -1,4 +1,4 @@
--- `judge::rises` meets its contract: what the scan has passed rose, so the answer is that of the rest. Assumes nothing.
+-- `judge::rises` meets its contract: what the scan has passed rose, so the answer is that of the rest.
 use mathlib.Core.Path.{sym}
 use Prim.Native.Nat.{_-_}
 use native.Mathlib.Omega.{arith}

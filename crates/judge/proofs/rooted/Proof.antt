@@ -1,4 +1,4 @@
--- `judge::rooted` meets its contract. Assumes nothing.
+-- `judge::rooted` meets its contract.
 use mathlib.Core.Path.{sym}
 use Prim.Native.Nat.{_-_}
 use native.Mathlib.Omega.{arith}

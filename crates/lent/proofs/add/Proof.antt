@@ -1,6 +1,6 @@
 -- `lent::add` meets its contract: a walk of its MIR, by hand. The slice is handed to `listed`, at its own lifetime, and what comes back to the
 -- covered `add_listed`. The slice is Copy: what it owns is had twice, and one copy is kept for the exit. What the callees return stays a
--- variable, with what is known of it. All that the proof knows of the callees is that they meet their contracts. Assumes nothing.
+-- variable, with what is known of it. All that the proof knows of the callees is that they meet their contracts.
 use mathlib.Core.Path.{_≡_, refl, sym, subst}
 use mathlib.Core.List.{[], _∷_, List}
 use lib.IntN.{ℤ}
@@ -42,16 +42,16 @@ use Rattle.chain.specs.Acts.{add, numberGiven}
 use Rattle.chain.specs.View.{view, Sound, Does}
 use Rattle.chain.specs.declared.Session.{Session}
 use Rattle.chain.specs.declared.Added.{Added}
-use Rattle.lent.specs.Listing.{noNodes, withPairs, heldIn, Filled}
-use Rattle.lent.specs.declared.listing.Nodes.{Nodes}
+use Rattle.lent.specs.inner.Listing.{noNodes, withPairs, heldIn, NodesFit}
+use Rattle.lent.specs.declared.listing.NodeLists.{NodeLists}
 use Rattle.seed.proofs.Pair as T
 use Rattle.chain.proofs.Session as S
 use Rattle.chain.proofs.Session.Laws as S′
 use Rattle.chain.proofs.Added as R
 use Rattle.chain.proofs.Added.Laws as R′
 use Rattle.lent.proofs.Pairs.{listed-filled, add-listed}
-use Rattle.lent.proofs.listing.Nodes as L
-use Rattle.lent.proofs.listing.Nodes.Laws as L′
+use Rattle.lent.proofs.listing.NodeLists as L
+use Rattle.lent.proofs.listing.NodeLists.Laws as L′
 use Rattle.lent.proofs.listing.listed as e
 use Rattle.lent.proofs.listing.listed.Symbol as e-def
 use Rattle.lent.proofs.listing.listed.Symbol.{name as #lent·listing·listed}
@@ -96,7 +96,7 @@ module _ {M : Type 1} (𝓤 : URA M) (H : Heap 𝓤) (A : Atoms 𝓤) (W : Given
   abbrev Own : Fml
   Own = ShrSlice (named 0) κ T.the-row .own y (s ∷ [])
 
-  abbrev all : Nodes
+  abbrev all : NodeLists
   all = withPairs ys noNodes
 
   -- what the contract says of the result, and what that of `add_listed` does
@@ -106,14 +106,14 @@ module _ {M : Type 1} (𝓤 : URA M) (H : Heap 𝓤) (A : Atoms 𝓤) (W : Given
   abbrev Numbered : Added → Type 0
   Numbered r = r .number ≡ numberGiven (view h) (r .answer)
 
-  abbrev Known : Nodes → Added → Type 0
+  abbrev Known : NodeLists → Added → Type 0
   Known l r = Does h (add (heldIn l) z) (r .answer) (r .session) × Numbered r
 
   -- the pairs held are added as the whole slice is
-  right : (l : Nodes) (r : Added) → l ≡ all → Known l r → Right r
+  right : (l : NodeLists) (r : Added) → l ≡ all → Known l r → Right r
   right l r e known =
       add-listed h ys z
-      (subst (λ (m : Nodes). Does h (add (heldIn m) z) (r .answer) (r .session)) e (known .0))
+      (subst (λ (m : NodeLists). Does h (add (heldIn m) z) (r .answer) (r .session)) e (known .0))
 
   abbrev Post : Val → SProp 𝓤
   Post = walkOf 𝓤 H A f.ended stayed (f.clauses 𝓤 H A mem run) .post (((κ, tt), (q, tt), tt, x, at), tt)
@@ -124,18 +124,18 @@ module _ {M : Type 1} (𝓤 : URA M) (H : Heap 𝓤) (A : Atoms 𝓤) (W : Given
   goes-listed : ent 𝓤 (⋆ 𝓤 H A ((‵ (flft κ q) ⊛ ‵ ftrue) ∷ ‵ Own ∷ [])) (Listed 𝓤 H A mem run .pre to-listed)
   goes-listed = qed W ((‵ (flft κ q) ⊛ ‵ ftrue) ∷ ‵ Own ∷ []) ∵ nothing ! $ move ! (2 ∷ 0 ∷ []) $ fjoin ! $ move ! (1 ∷ 0 ∷ []) $ join ! $ frame ! $ done !
 
-  said-listed : (r : Nodes) → ent 𝓤 (ensured 𝓤 H A e.ended (e.clauses 𝓤 H A mem run) (κ, tt) (y, tt) tt r) (fact 𝓤 (r ≡ all))
+  said-listed : (r : NodeLists) → ent 𝓤 (ensured 𝓤 H A e.ended (e.clauses 𝓤 H A mem run) (κ, tt) (y, tt) tt r) (fact 𝓤 (r ≡ all))
   said-listed r = exE 𝓤 _ (λ ws. snd∗ 𝓤 (sem 𝓤 H A (lasts e.ended (κ, tt) (y, tt) ws)) (fact 𝓤 (r ≡ all)))
 
-  abbrev to-add : Nodes → Val → AddListed 𝓤 H A mem run .Ghost
+  abbrev to-add : NodeLists → Val → AddListed 𝓤 H A mem run .Ghost
   to-add l w = ((tt, tt, tt, (h, (l, (z, tt))), (svals h, (w ∷ [], (sint-vals w32 z, tt)))), tt)
 
-  goes-add : (l : Nodes) (w : Val) → l ≡ all → Is L.the-row l (w ∷ []) → ent 𝓤 (emp 𝓤) (AddListed 𝓤 H A mem run .pre (to-add l w))
+  goes-add : (l : NodeLists) (w : Val) → l ≡ all → Is L.the-row l (w ∷ []) → ent 𝓤 (emp 𝓤) (AddListed 𝓤 H A mem run .pre (to-add l w))
   goes-add l w e is =
-      qed W [] ∵ says ! (pre, subst Filled (sym e) (listed-filled ys)) $ nothing ! $ owned ! i32 (Is i32) (sint-makes 𝓤 H A W w32) z _ is-z $ fjoin ! $ owned ! L.the-row (Is L.the-row) (LL.makes L.the-type L′.the-plain 𝓤 H A) l _ is $ fjoin ! $
+      qed W [] ∵ says ! (pre, subst NodesFit (sym e) (listed-filled ys)) $ nothing ! $ owned ! i32 (Is i32) (sint-makes 𝓤 H A W w32) z _ is-z $ fjoin ! $ owned ! L.the-row (Is L.the-row) (LL.makes L.the-type L′.the-plain 𝓤 H A) l _ is $ fjoin ! $
       owned ! S.the-row (Is S.the-row) (LL.makes S.the-type S′.the-plain 𝓤 H A) h _ is-h $ fjoin ! $ nothing ! $ join ! $ done !
 
-  said-add : (l : Nodes) (r : Added) → ent 𝓤 (ensured 𝓤 H A g.ended (g.clauses 𝓤 H A mem run) tt (h, (l, (z, tt))) tt r) (fact 𝓤 (Known l r))
+  said-add : (l : NodeLists) (r : Added) → ent 𝓤 (ensured 𝓤 H A g.ended (g.clauses 𝓤 H A mem run) tt (h, (l, (z, tt))) tt r) (fact 𝓤 (Known l r))
   said-add l r = exE 𝓤 _ (λ ws. snd∗ 𝓤 (sem 𝓤 H A (lasts g.ended tt (h, (l, (z, tt))) ws)) (fact 𝓤 (Known l r)))
 
   exits : (r : Added) (u : Val) → Right r → Numbered r → ent 𝓤 (⋆ 𝓤 H A (‵ (R.the-row .own r (u ∷ [])) ∷ (‵ (flft κ q) ⊛ ‵ ftrue) ∷ ‵ Own ∷ [])) (Post u)
@@ -156,7 +156,7 @@ module _ {M : Type 1} (𝓤 : URA M) (H : Heap 𝓤) (A : Atoms 𝓤) (W : Given
         move ! (13 ∷ 0 ∷ []) $ use2 W (raw (Listed 𝓤 H A mem run .pre to-listed)) goes-listed $
         -- [what `listed` asks; the slice's; the score's; _4 at 3; …]
         calls-at ! fm (Listed 𝓤 H A mem run) known-listed to-listed (and-then ! (load ! (from ! (stop !)) (look ! 7 refl)) (no-more !)) (λ w.
-        use1 W (later (some (λ (r : Nodes). ((‵ (flft κ q) ⊛ ‵ ftrue) ⊛ ‵ (L.the-row .own r (w ∷ []))) ⊛ raw (ensured 𝓤 H A e.ended (e.clauses 𝓤 H A mem run) (κ, tt) (y, tt) tt r)))) (id⊢ 𝓤 _) $ await ! tt $ pick ! (λ l.
+        use1 W (later (some (λ (r : NodeLists). ((‵ (flft κ q) ⊛ ‵ ftrue) ⊛ ‵ (L.the-row .own r (w ∷ []))) ⊛ raw (ensured 𝓤 H A e.ended (e.clauses 𝓤 H A mem run) (κ, tt) (y, tt) tt r)))) (id⊢ 𝓤 _) $ await ! tt $ pick ! (λ l.
         split ! $ move ! (1 ∷ []) $ use1 W (raw (fact 𝓤 (l ≡ all))) (said-listed l) $ heard ! (l ≡ all) (λ eq. split ! $ move ! (1 ∷ []) $
         peeks ! L.the-row (Is L.the-row) (shows 𝓤 H A L.the-row) l (w ∷ []) (λ is. land ! (from ! (stop !)) (init ! 4 refl (LL.lawful L.the-type L′.the-laws 𝓤 H A W .typed l _ is .0)) $ drop ! $
         -- [the token; the slice's; the score's; _4 at 3; …]

@@ -1,7 +1,7 @@
 -- `lent::rescore` meets its contract: a walk of its MIR, by hand. The borrow is opened, the session is copied out of it and handed to the
 -- by-value method, the session that comes back is stored, and the borrow is closed there. The borrow stays open over the call: the call rule
 -- frames what the callee does not ask for. No field of the session is looked at, so the walk is the same for every session.
--- All that the proof knows of `Session::rescored` is that it meets its contract. Assumes nothing.
+-- All that the proof knows of `Session::rescored` is that it meets its contract.
 use mathlib.Core.Path.{refl, ap}
 use Prim.Native.Nat.{ℕ}
 use mathlib.Core.List.{[], _∷_, List}

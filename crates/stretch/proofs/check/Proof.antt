@@ -1,4 +1,4 @@
--- `stretch::check` meets its contract. Assumes nothing.
+-- `stretch::check` meets its contract.
 use mathlib.Core.Path.{ap}
 use Rattle.stretch.specs.Stretch.{checkOf}
 use Rattle.stretch.specs.declared.search.Located.{Located}

@@ -1,4 +1,4 @@
--- `stretch::part` meets its contract: the bytes located spell the stretch, and lie where it stands in the text. Assumes nothing.
+-- `stretch::part` meets its contract: the bytes located spell the stretch, and lie where it stands in the text.
 use mathlib.Core.Path.{refl, sym, ap, _∙_}
 use native.Mathlib.Omega.{arith}
 use Rattle.stretch.specs.declared.search.Located.{Located}

@@ -1,4 +1,4 @@
--- `test_sessions::all_areas` hands over a sound session: each turn does. The measure is the seeds left. Assumes nothing.
+-- `test_sessions::all_areas` hands over a sound session: each turn does. The measure is the seeds left.
 use borrow.Author.Needs.{needs}
 use Prim.Native.Nat.{_-_}
 use Rattle.chain.specs.View.{Sound}

@@ -1,4 +1,4 @@
--- `tree::bad_length` meets its contract. Assumes nothing.
+-- `tree::bad_length` meets its contract.
 use Rattle.tree.proofs.Lengths.{empty, not-empty}
 use Rattle.tree.proofs.bad_length.Statement.{statement}
 use Rattle.tree.proofs.bad_length.Tie as tie

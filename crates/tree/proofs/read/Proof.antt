@@ -1,4 +1,4 @@
--- `tree::read` meets its contract: one law for each way out. Assumes nothing.
+-- `tree::read` meets its contract: one law for each way out.
 use mathlib.Core.Path.{sym, ap, _∙_}
 use native.Mathlib.Omega.{arith}
 use Rattle.tree.specs.Reading.{readOf}

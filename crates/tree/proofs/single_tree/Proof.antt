@@ -1,4 +1,4 @@
--- `tree::single_tree` meets its contract. Assumes nothing.
+-- `tree::single_tree` meets its contract.
 use mathlib.Core.Path.{refl}
 use Rattle.tree.proofs.single_tree.Statement.{statement}
 use Rattle.tree.proofs.single_tree.Tie as tie

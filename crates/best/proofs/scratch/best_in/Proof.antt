@@ -1,8 +1,8 @@
 -- `best::scratch::best_in` meets its contract: the highest is looked at, and taken off with what is left of it.
 use Prim.Native.Nat.{_^_, _<_}
 use native.Mathlib.Omega.{arith}
-use Rattle.optimum.specs.Table.{stored}
-use Rattle.best.specs.Scratch.{keyAt, rows}
+use Rattle.optimum.specs.inner.Table.{stored}
+use Rattle.best.specs.inner.Scratch.{keyAt, rowBank}
 use Rattle.masks.proofs.Bits.{minus-small, minus-less, taken-off}
 use Rattle.best.proofs.Banks.{Searched, search-start, search-turn, search-end}
 use borrow.Author.Needs.{needs}
@@ -10,7 +10,7 @@ use Rattle.best.proofs.scratch.best_in.Statement.{statement}
 use Rattle.best.proofs.scratch.best_in.Tie as tie
 
 abbrev Inv-loop : tie.InvT-loop
-Inv-loop scratch lefts mask best₀ rest₀ best rest = (rest < 2 ^ 64) × Searched mask (keyAt scratch rows) rest (stored (best .total) (best .mask))
+Inv-loop scratch lefts mask best₀ rest₀ best rest = (rest < 2 ^ 64) × Searched mask (keyAt scratch rowBank) rest (stored (best .total) (best .mask))
 
 abbrev μ-loop : tie.MeasureT-loop
 μ-loop scratch lefts mask best₀ rest₀ best rest = rest

@@ -4,7 +4,7 @@ use mathlib.Core.Path.{_≡_}
 use native.Mathlib.Omega.{arith}
 use borrow.Author.Needs.{needs, sfits-of}
 use mir.Facts.{toZ-ofZ}
-use Rattle.best.specs.Scratch.{itemsOf, ItemsFilled}
+use Rattle.best.specs.inner.Scratch.{itemsOf, ItemsFilled}
 use Rattle.best.proofs.Rows.{items-start, item-room, item-small, item-turn}
 use Rattle.best.proofs.scratch.fill_items.Statement.{statement}
 use Rattle.best.proofs.scratch.fill_items.Tie as tie

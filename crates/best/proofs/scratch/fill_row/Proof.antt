@@ -1,8 +1,8 @@
 -- `best::scratch::fill_row` meets its contract: the members are taken off from the lowest on.
 use Prim.Native.Nat.{ℕ, _+_, _≤_}
 use native.Mathlib.Omega.{arith}
-use Rattle.optimum.specs.Table.{stored}
-use Rattle.best.specs.Scratch.{RowFilled}
+use Rattle.optimum.specs.inner.Table.{stored}
+use Rattle.best.specs.inner.Scratch.{RowFilled}
 use Rattle.best.proofs.Members.{Left, left-start, left-none, left-past, left-from, left-has, left-less, left-next}
 use Rattle.best.proofs.Rows.{row-start, row-room, row-turn, row-past}
 use Rattle.best.proofs.scratch.fill_row.Statement.{statement}

@@ -5,7 +5,7 @@ use native.Mathlib.Omega.{arith}
 use mir.Facts.{toZ-ofZ}
 use borrow.Author.Needs.{sfits-of}
 use Rattle.deck.specs.Deck.{seedCount}
-use Rattle.deck.specs.Walking.{withScores}
+use Rattle.deck.specs.inner.Walking.{withScores}
 use Rattle.deck.proofs.Records.{scoresBelow, scored-none, scored-more, scored-all}
 use Rattle.deck.proofs.layout.scored.Statement.{statement}
 use Rattle.deck.proofs.layout.scored.Tie as tie

@@ -1,4 +1,4 @@
--- `judge::ancestry::alike` meets its contract: the pairs passed were alike, so the answer is that of the rest. Assumes nothing.
+-- `judge::ancestry::alike` meets its contract: the pairs passed were alike, so the answer is that of the rest.
 use mathlib.Core.Path.{_≡_, sym, _∙_}
 use Prim.Native.Nat.{_-_}
 use native.Mathlib.Omega.{arith}
@@ -9,7 +9,7 @@ use Rattle.seed.specs.Tests.{alikeTo, alike}
 use Rattle.seed.specs.Pairs.{pairsOf}
 use Rattle.seed.proofs.PairLists.{count-first}
 use Rattle.seed.proofs.Scans.{Passed, scan-start, scan-no, scan-on, scan-end}
-use Rattle.judge.specs.Steps.{Rows}
+use Rattle.judge.specs.inner.Steps.{Rows}
 use Rattle.judge.proofs.Rising.{ups-grow, rises-ups, bytes-few, cut-early}
 use Rattle.judge.proofs.Rows.{rows-start, row-put, alike-looked}
 use Rattle.judge.proofs.ancestry.alike.Statement.{statement}

@@ -1,4 +1,4 @@
--- `judge::ancestry::cuts` meets its contract: what stands on both sides of the cut decides. Assumes nothing.
+-- `judge::ancestry::cuts` meets its contract: what stands on both sides of the cut decides.
 use mathlib.Core.Path.{refl}
 use mathlib.Core.Bool.{false≢true}
 use mathlib.Core.Logic.{inl, inr}

@@ -1,4 +1,4 @@
--- `judge::ancestry::row_start` meets its contract: the nodes from `start` on are in the subtree. Assumes nothing.
+-- `judge::ancestry::row_start` meets its contract: the nodes from `start` on are in the subtree.
 use mathlib.Core.Path.{_≡_}
 use Prim.Native.Nat.{_-_}
 use native.Mathlib.Omega.{arith}

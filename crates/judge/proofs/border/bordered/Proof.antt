@@ -1,11 +1,11 @@
--- `judge::border::bordered` meets its contract: the nodes before the listed one are passed. Assumes nothing.
+-- `judge::border::bordered` meets its contract: the nodes before the listed one are passed.
 use mathlib.Core.Path.{_≡_, sym, _∙_}
 use Prim.Native.Nat.{_≤_, _+_, _-_}
 use native.Mathlib.Omega.{arith}
 use lib.ListN.{length, getD}
 use Rattle.seed.specs.Seed.{lastNode}
 use Rattle.judge.proofs.JudgeSteps.{last-node-at}
-use Rattle.judge.specs.Steps.{Past}
+use Rattle.judge.specs.inner.Steps.{Past}
 use Rattle.judge.proofs.Climbs.{past-start, past-end, passed-room, passed-bare, passed-on}
 use Rattle.judge.proofs.border.bordered.Statement.{statement}
 use Rattle.judge.proofs.border.bordered.Tie as tie

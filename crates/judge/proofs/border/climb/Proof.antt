@@ -1,4 +1,4 @@
--- `judge::border::climb` meets its contract: the node before x is the last top. Assumes nothing.
+-- `judge::border::climb` meets its contract: the node before x is the last top.
 use mathlib.Core.Path.{_≡_, refl}
 use mathlib.Core.Logic.{inl, inr}
 use Prim.Native.Nat.{_<_, _+_, _-_}
@@ -6,7 +6,7 @@ use native.Mathlib.Omega.{arith}
 use lib.ListN.{getD}
 use borrow.Author.Needs.{needs}
 use borrow.Author.Tests.{ltb-true, ltb-false}
-use Rattle.judge.specs.Steps.Passed.{bare}
+use Rattle.judge.specs.inner.Steps.Passed.{bare}
 use Rattle.judge.proofs.Climbs.{Climb, climb-start, climb-no, climb-left, climb-on, climb-end, climb-bare}
 use Rattle.judge.proofs.border.climb.Statement.{statement}
 use Rattle.judge.proofs.border.climb.Tie as tie

@@ -1,10 +1,10 @@
--- `judge::border::joined` meets its contract: the children passed are the tops from `left` on. Assumes nothing.
+-- `judge::border::joined` meets its contract: the children passed are the tops from `left` on.
 use mathlib.Core.Path.{_≡_, refl}
 use Prim.Native.Nat.{_<_, _-_}
 use native.Mathlib.Omega.{arith}
 use borrow.Author.Needs.{needs}
 use Rattle.tree.specs.Nested.{leaf}
-use Rattle.judge.specs.Steps.Joined.{broken}
+use Rattle.judge.specs.inner.Steps.Joined.{broken}
 use Rattle.judge.proofs.Tops.{Downs, down-start, down-on, down-no, down-end}
 use Rattle.judge.proofs.border.joined.Statement.{statement}
 use Rattle.judge.proofs.border.joined.Tie as tie

@@ -1,4 +1,4 @@
--- `judge::border::kept` meets its contract: the tops from `left` on do not lie before the number. Assumes nothing.
+-- `judge::border::kept` meets its contract: the tops from `left` on do not lie before the number.
 use mathlib.Core.Path.{_≡_}
 use mathlib.Core.Logic.{inl, inr}
 use Prim.Native.Nat.{ℕ, _≤_, _<_, _-_}

@@ -1,4 +1,4 @@
--- `judge::border::pass` meets its contract: the listed node becomes the last top. Assumes nothing.
+-- `judge::border::pass` meets its contract: the listed node becomes the last top.
 use mathlib.Core.Path.{sym, _∙_}
 use native.Mathlib.Omega.{arith}
 use borrow.Author.Needs.{needs}

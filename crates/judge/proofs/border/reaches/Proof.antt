@@ -1,8 +1,8 @@
--- `judge::border::reaches` meets its contract: what is found is so of the nodes passed. Assumes nothing.
+-- `judge::border::reaches` meets its contract: what is found is so of the nodes passed.
 use mathlib.Core.Path.{_≡_}
 use Prim.Native.Nat.{_≤_, _-_}
 use native.Mathlib.Omega.{arith}
-use Rattle.judge.specs.Steps.{Reaching}
+use Rattle.judge.specs.inner.Steps.{Reaching}
 use Rattle.judge.proofs.Climbs.{reach-start, reach-on}
 use Rattle.judge.proofs.border.reaches.Statement.{statement}
 use Rattle.judge.proofs.border.reaches.Tie as tie

@@ -1,9 +1,9 @@
--- `lent::listing::add_listed` meets its contract. Assumes nothing.
+-- `lent::listing::add_listed` meets its contract.
 use mathlib.Core.Path.{sym}
 use lib.Seq.{length-take-le}
 use mir.Facts.{toZ-ofZ}
 use borrow.Author.Needs.{needs}
-use Rattle.lent.specs.Listing.{heldIn}
+use Rattle.lent.specs.inner.Listing.{heldIn}
 use Rattle.lent.proofs.listing.add_listed.Statement.{statement}
 use Rattle.lent.proofs.listing.add_listed.Tie as tie
 

@@ -1,7 +1,7 @@
 -- `lent::listing::listed` meets its contract: a walk of its MIR, by hand, with a loop. The slice is looked into once, before the loop, and shut
 -- once, after it. A turn takes one pair out of the row, copies it, puts it back, and calls `with_pair` with its two numbers.
 -- The loop's variant holds what changes: the index i and the nodes so far, with what is known of them: what `withPairs` makes of them and of
--- the pairs from i on is what it makes of all. All that the proof knows of the callees is that they meet their contracts. Assumes nothing.
+-- the pairs from i on is what it makes of all. All that the proof knows of the callees is that they meet their contracts.
 use mathlib.Core.Path.{_≡_, refl, sym, ap, subst, _∙_}
 use mathlib.Core.Bool.{Bool, true, false}
 use mathlib.Core.WellFounded.{WellFounded, InvImage·wf}
@@ -50,13 +50,13 @@ use denote.Triple.Walked.{says, Stays, stay-none-slice, walkOf, goes-none-slice,
 use denote.Triple.Clauses.{ensured, lasts}
 use denote.Exit.{yes}
 use Rattle.seed.specs.declared.Pair.{Pair}
-use Rattle.lent.specs.Listing.{noNodes, withPair, withPairs}
-use Rattle.lent.specs.declared.listing.Nodes.{Nodes}
+use Rattle.lent.specs.inner.Listing.{noNodes, withOneMore, withPairs}
+use Rattle.lent.specs.declared.listing.NodeLists.{NodeLists}
 use Rattle.seed.proofs.Pair as T
 use Rattle.seed.proofs.Pair.Laws as T′
 use Rattle.lent.proofs.Pairs.{pairs-step, pairs-end}
-use Rattle.lent.proofs.listing.Nodes as L
-use Rattle.lent.proofs.listing.Nodes.Laws as L′
+use Rattle.lent.proofs.listing.NodeLists as L
+use Rattle.lent.proofs.listing.NodeLists.Laws as L′
 use Rattle.lent.proofs.listing.no_nodes as e
 use Rattle.lent.proofs.listing.no_nodes.Symbol as e-def
 use Rattle.lent.proofs.listing.no_nodes.Symbol.{name as #lent·listing·no-nodes}
@@ -78,13 +78,13 @@ stayed = (stay-none-slice (0 ∷ []) tt (plain (λ _. T.the-row)) yes, tt)
 abbrev pvals : Pair → List Val
 pvals = LL.vals T.the-type T′.the-laws
 
-abbrev lvals : Nodes → List Val
+abbrev lvals : NodeLists → List Val
 lvals = LL.vals L.the-type L′.the-laws
 
-abbrev lval : Nodes → Val
+abbrev lval : NodeLists → Val
 lval = LL.val L.the-type L′.the-laws
 
-abbrev IsL : Nodes → Type 0
+abbrev IsL : NodeLists → Type 0
 IsL l = Is L.the-row l (lvals l)
 
 abbrev sliceOf : Ty
@@ -93,7 +93,7 @@ sliceOf = sliceTy (tyRef (named 0) imm (pointee (T.the-row .written)))
 -- the loop's variant
 record Upto (ys : List Pair) : Type 0 where
   i : ℕ
-  l : Nodes
+  l : NodeLists
   within : i ≤ length ys
   so-far : withPairs (dropL i ys) l ≡ withPairs ys noNodes
   is : IsL l
@@ -112,23 +112,23 @@ module _ {M : Type 1} (𝓤 : URA M) (H : Heap 𝓤) (A : Atoms 𝓤) (mem : Mem
   abbrev WithPair : Contract 𝓤
   WithPair = tripleOf 𝓤 H A g.signature (g.spec 𝓤 H A mem run)
 
-  said-no-nodes : (r : Nodes) → ent 𝓤 (ensured 𝓤 H A e.ended (e.clauses 𝓤 H A mem run) tt tt tt r) (fact 𝓤 (r ≡ noNodes))
+  said-no-nodes : (r : NodeLists) → ent 𝓤 (ensured 𝓤 H A e.ended (e.clauses 𝓤 H A mem run) tt tt tt r) (fact 𝓤 (r ≡ noNodes))
   said-no-nodes r = exE 𝓤 _ (λ ws. snd∗ 𝓤 (sem 𝓤 H A (lasts e.ended tt tt ws)) (fact 𝓤 (r ≡ noNodes)))
 
-  said-with-pair : (l : Nodes) (x y : ℕ) (r : Nodes) → ent 𝓤 (ensured 𝓤 H A g.ended (g.clauses 𝓤 H A mem run) tt (l, (x, (y, tt))) tt r) (fact 𝓤 (r ≡ withPair l x y))
-  said-with-pair l x y r = exE 𝓤 _ (λ ws. snd∗ 𝓤 (sem 𝓤 H A (lasts g.ended tt (l, (x, (y, tt))) ws)) (fact 𝓤 (r ≡ withPair l x y)))
+  said-with-pair : (l : NodeLists) (x y : ℕ) (r : NodeLists) → ent 𝓤 (ensured 𝓤 H A g.ended (g.clauses 𝓤 H A mem run) tt (l, (x, (y, tt))) tt r) (fact 𝓤 (r ≡ withOneMore l x y))
+  said-with-pair l x y r = exE 𝓤 _ (λ ws. snd∗ 𝓤 (sem 𝓤 H A (lasts g.ended tt (l, (x, (y, tt))) ws)) (fact 𝓤 (r ≡ withOneMore l x y)))
 
   abbrev to-no-nodes : NoNodes .Ghost
   to-no-nodes = ((tt, tt, tt, tt, tt), tt)
 
-  abbrev to-with-pair : Nodes → ℕ → ℕ → WithPair .Ghost
+  abbrev to-with-pair : NodeLists → ℕ → ℕ → WithPair .Ghost
   to-with-pair l x y = ((tt, tt, tt, (l, (x, (y, tt))), (lvals l, (vint w8 x ∷ [], (vint w8 y ∷ [], tt)))), tt)
 
   module _ (W : Given 𝓤 H A) where
     goes-no-nodes : ent 𝓤 (emp 𝓤) (NoNodes .pre to-no-nodes)
     goes-no-nodes = qed W [] ∵ nothing ! $ nothing ! $ join ! $ frame ! $ done !
 
-    goes-with-pair : (l : Nodes) (x y : ℕ) → IsL l → x < 2 ^ 8 → y < 2 ^ 8 → ent 𝓤 (emp 𝓤) (WithPair .pre (to-with-pair l x y))
+    goes-with-pair : (l : NodeLists) (x y : ℕ) → IsL l → x < 2 ^ 8 → y < 2 ^ 8 → ent 𝓤 (emp 𝓤) (WithPair .pre (to-with-pair l x y))
     goes-with-pair l x y is hx hy =
         qed W [] ∵ nothing ! $ owned ! u8 (Is u8) (uint-makes 𝓤 H A W w8) y _ (refl, hy) $ fjoin ! $ owned ! u8 (Is u8) (uint-makes 𝓤 H A W w8) x _ (refl, hx) $ fjoin ! $
         owned ! L.the-row (Is L.the-row) (LL.makes L.the-type L′.the-plain 𝓤 H A) l _ is $ fjoin ! $ nothing ! $ join ! $ frame ! $ done !
@@ -149,7 +149,7 @@ module _ {M : Type 1} (𝓤 : URA M) (H : Heap 𝓤) (A : Atoms 𝓤) (W : Given
   abbrev Post : Val → SProp 𝓤
   Post = walkOf 𝓤 H A f.ended stayed (f.clauses 𝓤 H A mem run) .post (((κ, tt), (q, tt), tt, x, at), tt)
 
-  exits : (l : Nodes) → l ≡ withPairs ys noNodes → IsL l → ent 𝓤 (⋆ 𝓤 H A (‵ (flft κ q) ∷ ‵ Own ∷ [])) (Post (lval l))
+  exits : (l : NodeLists) → l ≡ withPairs ys noNodes → IsL l → ent 𝓤 (⋆ 𝓤 H A (‵ (flft κ q) ∷ ‵ Own ∷ [])) (Post (lval l))
   exits l eq is =
       qed W (‵ (flft κ q) ∷ ‵ Own ∷ []) ∵
       suffices ! _ (ends-at 𝓤 H A f.ended stayed (f.clauses 𝓤 H A mem run) W (((κ, tt), (q, tt), tt, x, at), tt) (lval l) l (tt, tt) (tt, tt)) $ says ! eq $
@@ -159,10 +159,10 @@ module _ {M : Type 1} (𝓤 : URA M) (H : Heap 𝓤) (A : Atoms 𝓤) (W : Given
   abbrev p : ℕ → Pair
   p i = getD ys i (record { q = 0; t = 0 })
 
-  abbrev next : (u : Upto ys) → u .i < length ys → IsL (withPair (u .l) (p (u .i) .q) (p (u .i) .t)) → Upto ys
+  abbrev next : (u : Upto ys) → u .i < length ys → IsL (withOneMore (u .l) (p (u .i) .q) (p (u .i) .t)) → Upto ys
   next u less is = record {
     i = u .i + 1;
-    l = withPair (u .l) (p (u .i) .q) (p (u .i) .t);
+    l = withOneMore (u .l) (p (u .i) .q) (p (u .i) .t);
     within = omega (arith, less);
     so-far = sym (pairs-step ys (u .i) _ (u .l) less) ∙ u .so-far;
     is = is;
@@ -206,8 +206,8 @@ module _ {M : Type 1} (𝓤 : URA M) (H : Heap 𝓤) (A : Atoms 𝓤) (W : Given
         (goes-with-pair 𝓤 H A mem run W (u .l) (p (u .i) .q) (p (u .i) .t) (u .is) (LL.owed T.the-type T′.the-laws (p (u .i)) _ is-p .0 .1) (LL.owed T.the-type T′.the-laws (p (u .i)) _ is-p .1 .0 .1)) $
         calls-at ! (fmOf 𝓤 H (W .laws) 𝓣) (WithPair 𝓤 H A mem run) known-with-pair (to-with-pair 𝓤 H A mem run (u .l) (p (u .i) .q) (p (u .i) .t))
         (and-then ! (load ! (from ! (stop !)) (look ! 16 refl)) (and-then ! (load ! (from ! (fld ! refl (stop !))) (look-in ! 12 (sub ! 0 refl (whole !)))) (and-then ! (load ! (from ! (fld ! refl (stop !))) (look-in ! 12 (sub ! 1 refl (whole !)))) (no-more !)))) (λ w.
-        use1 W (later (some (λ (r : Nodes). (‵ ftrue ⊛ ‵ (L.the-row .own r (w ∷ []))) ⊛ raw (ensured 𝓤 H A g.ended (g.clauses 𝓤 H A mem run) tt (u .l, (p (u .i) .q, (p (u .i) .t, tt))) tt r)))) (id⊢ 𝓤 _) $ await ! tt $ pick ! (λ r.
-        split ! $ move ! (1 ∷ []) $ use1 W (raw (fact 𝓤 (r ≡ l′))) (said-with-pair 𝓤 H A mem run (u .l) (p (u .i) .q) (p (u .i) .t) r) $ heard ! (r ≡ l′) (λ eq. split ! $ drop ! $ rewrite ! 0 (λ (c : Nodes). ‵ (L.the-row .own c (w ∷ []))) eq refl $
+        use1 W (later (some (λ (r : NodeLists). (‵ ftrue ⊛ ‵ (L.the-row .own r (w ∷ []))) ⊛ raw (ensured 𝓤 H A g.ended (g.clauses 𝓤 H A mem run) tt (u .l, (p (u .i) .q, (p (u .i) .t, tt))) tt r)))) (id⊢ 𝓤 _) $ await ! tt $ pick ! (λ r.
+        split ! $ move ! (1 ∷ []) $ use1 W (raw (fact 𝓤 (r ≡ l′))) (said-with-pair 𝓤 H A mem run (u .l) (p (u .i) .q) (p (u .i) .t) r) $ heard ! (r ≡ l′) (λ eq. split ! $ drop ! $ rewrite ! 0 (λ (c : NodeLists). ‵ (L.the-row .own c (w ∷ []))) eq refl $
         peeks ! L.the-row (Is L.the-row) (shows 𝓤 H A L.the-row) l′ (w ∷ []) (λ is.
         land ! (from ! (stop !)) (store ! 16 refl (LL.lawful L.the-type L′.the-laws 𝓤 H A W .typed l′ _ is .0)) $
         rewrite ! 16 (λ (v : Val). ‵ (fat fullShare L′.mir l₂ 0 v)) (ap only (LL.tells L.the-type L′.the-laws l′ _ is)) refl $ drop ! $
@@ -215,8 +215,8 @@ module _ {M : Type 1} (𝓤 : URA M) (H : Heap 𝓤) (A : Atoms 𝓤) (W : Given
         forget ! 3 refl $ forget ! 5 refl $ forget ! 7 refl $ forget ! 9 refl $ forget ! 11 refl $
         again ! Nearer At u (next u less (subst (Is L.the-row l′) (LL.tells L.the-type L′.the-laws l′ _ is) is)) (omega (arith, less)))))))
       where
-        l′ : Nodes
-        l′ = withPair (u .l) (p (u .i) .q) (p (u .i) .t)
+        l′ : NodeLists
+        l′ = withOneMore (u .l) (p (u .i) .q) (p (u .i) .t)
 
         less : u .i < length ys
         less = ltb-true (u .i) (length ys) e
@@ -251,7 +251,7 @@ module _ {M : Type 1} (𝓤 : URA M) (H : Heap 𝓤) (A : Atoms 𝓤) (W : Given
       alloc1 ! (λ l₀. alloc1 ! (λ l₁. alloc1 ! (λ l₂. alloc1 ! (λ l₃. alloc1 ! (λ l₄. alloc1 ! (λ l₅. alloc1 ! (λ l₆. alloc1 ! (λ l₇. alloc1 ! (λ l₈. alloc0 ! $ params1 ! $ pass1 ! (init ! 14 refl (tt, (tt, (record { fits = room .0 }, tt)))) $ pass0 ! $
       use0 W (raw (NoNodes 𝓤 H A mem run .pre (to-no-nodes 𝓤 H A mem run))) (goes-no-nodes 𝓤 H A mem run W) $
       calls-at ! (fmOf 𝓤 H (W .laws) 𝓣) (NoNodes 𝓤 H A mem run) known-no-nodes (to-no-nodes 𝓤 H A mem run) (no-more !) (λ w.
-      use1 W (later (some (λ (r : Nodes). (‵ ftrue ⊛ ‵ (L.the-row .own r (w ∷ []))) ⊛ raw (ensured 𝓤 H A e.ended (e.clauses 𝓤 H A mem run) tt tt tt r)))) (id⊢ 𝓤 _) $ await ! tt $ pick ! (λ r.
+      use1 W (later (some (λ (r : NodeLists). (‵ ftrue ⊛ ‵ (L.the-row .own r (w ∷ []))) ⊛ raw (ensured 𝓤 H A e.ended (e.clauses 𝓤 H A mem run) tt tt tt r)))) (id⊢ 𝓤 _) $ await ! tt $ pick ! (λ r.
       split ! $ move ! (1 ∷ []) $ use1 W (raw (fact 𝓤 (r ≡ noNodes))) (said-no-nodes 𝓤 H A mem run r) $ heard ! (r ≡ noNodes) (λ eq. split ! $ drop ! $
       peeks ! L.the-row (Is L.the-row) (shows 𝓤 H A L.the-row) r (w ∷ []) (λ is.
       land ! (from ! (stop !)) (init ! 13 refl (LL.lawful L.the-type L′.the-laws 𝓤 H A W .typed r _ is .0)) $

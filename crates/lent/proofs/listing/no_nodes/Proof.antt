@@ -1,6 +1,6 @@
--- `lent::listing::no_nodes` meets its contract. Assumes nothing.
+-- `lent::listing::no_nodes` meets its contract.
 use borrow.Author.Needs.{needs}
-use Rattle.lent.specs.Listing.{noNodes}
+use Rattle.lent.specs.inner.Listing.{noNodes}
 use Rattle.lent.proofs.listing.no_nodes.Statement.{statement}
 use Rattle.lent.proofs.listing.no_nodes.Tie as tie
 

@@ -7,7 +7,7 @@ use lib.ListN.{length}
 use Rattle.seed.specs.Tab.{tab}
 use Rattle.table.specs.Rows.{presentRows}
 use Rattle.plain.specs.Plain.{plainPairs}
-use Rattle.plain.specs.Writing.{pairPart}
+use Rattle.plain.specs.inner.Writing.{pairPart}
 use Rattle.plain.proofs.Turns.{Pairing, pairing-all, pairing-same, pairing-same-long, pairing-room, pairing-few, pairing-more}
 use Rattle.plain.proofs.parts.put_pairs.Statement.{statement}
 use Rattle.plain.proofs.parts.put_pairs.Tie as tie

@@ -9,7 +9,7 @@ use borrow.Author.Needs.{sfits-of}
 use Rattle.seed.specs.Tab.{tab}
 use Rattle.table.specs.Rows.{presentRows}
 use Rattle.plain.specs.Plain.{plainSeeds}
-use Rattle.plain.specs.Writing.{seedPart}
+use Rattle.plain.specs.inner.Writing.{seedPart}
 use Rattle.plain.proofs.Turns.{Seeding, seeding-all, seeding-same, seeding-room, seeding-few, seeding-more}
 use Rattle.plain.proofs.parts.put_seeds.Statement.{statement}
 use Rattle.plain.proofs.parts.put_seeds.Tie as tie

@@ -7,7 +7,7 @@ use lib.ListN.{take}
 use lib.Seq.{sets}
 use Rattle.seed.specs.Pairs.{pairsOf}
 use Rattle.plain.specs.Plain.{plainChain}
-use Rattle.plain.specs.Writing.{pairPart}
+use Rattle.plain.specs.inner.Writing.{pairPart}
 use Rattle.plain.proofs.Writing.{chain-more, chain-long, chain-all, next-few}
 use Rattle.plain.proofs.records.put_chain.Statement.{statement}
 use Rattle.plain.proofs.records.put_chain.Tie as tie

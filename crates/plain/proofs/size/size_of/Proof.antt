@@ -6,7 +6,7 @@ use native.Mathlib.Omega.{arith}
 use lib.ListN.{length}
 use Rattle.seed.specs.Tab.{tab}
 use Rattle.table.specs.Rows.{presentRows}
-use Rattle.plain.specs.Writing.{sizeOf}
+use Rattle.plain.specs.inner.Writing.{sizeOf}
 use Rattle.plain.proofs.Present.{presentBelow}
 use Rattle.plain.proofs.Turns.{size-few, size-same, size-more, passed-all}
 use Rattle.plain.proofs.size.size_of.Statement.{statement}

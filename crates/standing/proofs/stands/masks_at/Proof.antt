@@ -7,7 +7,7 @@ use lib.Pow.{pow-lt, pow-pos}
 use Rattle.seed.specs.AreaList as stands
 use Rattle.seed.specs.Pairs.{pairsOf}
 use Rattle.seed.specs.declared.Pair.{Pair}
-use Rattle.standing.specs.Stands.{alone}
+use Rattle.standing.specs.inner.Stands.{alone}
 use Rattle.masks.proofs.Bits.{minus-small, minus-less, taken-off-with}
 use Rattle.standing.proofs.Knowing.{Known, known-start, known-with, known-left, known-under}
 use Rattle.standing.proofs.Relating.{masks-are}

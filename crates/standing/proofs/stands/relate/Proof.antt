@@ -4,7 +4,7 @@ use mathlib.Core.Path.{_≡_, ap, _∙_}
 use native.Mathlib.Omega.{arith}
 use borrow.Author.Needs.{needs}
 use Rattle.seed.specs.Seed.{lastPair}
-use Rattle.standing.specs.Stands.{seedBy, Lasts, Related}
+use Rattle.standing.specs.inner.Stands.{seedBy, Lasts, Related}
 use Rattle.standing.proofs.Relating.{lasts-start, lasts-turn, pairs-by, masks-same, composed, related-start, related-turn}
 use Rattle.standing.proofs.stands.relate.Statement.{statement}
 use Rattle.standing.proofs.stands.relate.Tie as tie

@@ -1,6 +1,6 @@
 -- `standing::stands::widened` meets its contract.
 use borrow.Author.Needs.{needs}
-use Rattle.standing.specs.Stands.{widenedBy}
+use Rattle.standing.specs.inner.Stands.{widenedBy}
 use Rattle.standing.proofs.stands.widened.Statement.{statement}
 use Rattle.standing.proofs.stands.widened.Tie as tie
 

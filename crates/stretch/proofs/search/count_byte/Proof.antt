@@ -1,4 +1,4 @@
--- `stretch::search::count_byte` meets its contract. Assumes nothing.
+-- `stretch::search::count_byte` meets its contract.
 use native.Mathlib.Omega.{arith}
 use Rattle.stretch.proofs.Scans.{one-end, two-bytes, count-low, count-high}
 use borrow.Author.Needs.{needs}

@@ -1,4 +1,4 @@
--- `stretch::search::locate` meets its contract. Assumes nothing.
+-- `stretch::search::locate` meets its contract.
 use mathlib.Core.Path.{refl}
 use Rattle.stretch.proofs.Searches.{short-read, locate-accepted, locate-refused}
 use Rattle.answer.proofs.Denied.{denies}

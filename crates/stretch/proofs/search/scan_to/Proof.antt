@@ -1,4 +1,4 @@
--- `stretch::search::scan_to` meets its contract: what is passed and what is left make up the whole scan. Assumes nothing.
+-- `stretch::search::scan_to` meets its contract: what is passed and what is left make up the whole scan.
 use Prim.Native.Nat.{_-_}
 use native.Mathlib.Omega.{arith}
 use lib.ListN.{length}

@@ -1,4 +1,4 @@
--- `stretch::search::search` meets its contract: one law for each way out. Assumes nothing.
+-- `stretch::search::search` meets its contract: one law for each way out.
 use mathlib.Core.Path.{refl}
 use native.Mathlib.Omega.{arith}
 use Rattle.stretch.proofs.Scans.{scan-inside, scan-counts}

@@ -1,4 +1,4 @@
--- `test_calls::changes::lendable` is safe and ends: its loop counts, and the array keeps its length. The measure is the turns left. Assumes nothing.
+-- `test_calls::changes::lendable` is safe and ends: its loop counts, and the array keeps its length. The measure is the turns left.
 use borrow.Author.Needs.{needs}
 use Prim.Native.Nat.{_-_}
 use Rattle.test_calls.proofs.changes.lendable.Statement.{statement}

@@ -1,4 +1,4 @@
--- `test_calls::reports::report` is safe: the scratch and the output that are lent are as long as was asked. Assumes nothing.
+-- `test_calls::reports::report` is safe: the scratch and the output that are lent are as long as was asked.
 use borrow.Author.Needs.{needs}
 use mathlib.Core.Path.{sym}
 use lib.Seq.{length-take-le}

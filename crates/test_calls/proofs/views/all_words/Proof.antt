@@ -1,4 +1,4 @@
--- `test_calls::views::all_words` is safe and ends: the range ends with the slice. The measure is what is left of it. Assumes nothing.
+-- `test_calls::views::all_words` is safe and ends: the range ends with the slice. The measure is what is left of it.
 use borrow.Author.Needs.{needs}
 use mathlib.Core.Path.{_≡_}
 use Prim.Native.Nat.{_-_}

@@ -1,4 +1,4 @@
--- `test_calls::views::with_chain` is safe and ends: its loop counts. The measure is the turns left. Assumes nothing.
+-- `test_calls::views::with_chain` is safe and ends: its loop counts. The measure is the turns left.
 use borrow.Author.Needs.{needs}
 use Prim.Native.Nat.{_-_}
 use Rattle.test_calls.proofs.views.with_chain.Statement.{statement}

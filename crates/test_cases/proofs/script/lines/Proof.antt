@@ -1,4 +1,4 @@
--- `test_cases::script::lines` hands over a sound session: each line does. The measure is the bytes left. Assumes nothing.
+-- `test_cases::script::lines` hands over a sound session: each line does. The measure is the bytes left.
 use borrow.Author.Needs.{needs}
 use Prim.Native.Nat.{_-_}
 use lib.ListN.{length}

@@ -1,4 +1,4 @@
--- `test_cases::verbs::called` hands over a sound session: each turn does. The measure is the turns left. Assumes nothing.
+-- `test_cases::verbs::called` hands over a sound session: each turn does. The measure is the turns left.
 use borrow.Author.Needs.{needs}
 use Prim.Native.Nat.{_-_}
 use Rattle.chain.specs.View.{Sound}

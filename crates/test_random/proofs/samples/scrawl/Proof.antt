@@ -1,4 +1,4 @@
--- `test_random::samples::scrawl` is safe and ends: its loop counts. The measure is the turns left. Assumes nothing.
+-- `test_random::samples::scrawl` is safe and ends: its loop counts. The measure is the turns left.
 use borrow.Author.Needs.{needs}
 use Prim.Native.Nat.{_-_}
 use Rattle.test_random.proofs.samples.scrawl.Statement.{statement}

@@ -1,4 +1,4 @@
--- `test_sessions::look::chains_alike` is safe and ends: the rank stays below 64. The measure is the seeds left. Assumes nothing.
+-- `test_sessions::look::chains_alike` is safe and ends: the rank stays below 64. The measure is the seeds left.
 use borrow.Author.Needs.{needs}
 use Prim.Native.Nat.{_-_, _<_}
 use Rattle.test_sessions.proofs.look.chains_alike.Statement.{statement}

@@ -1,4 +1,4 @@
--- `test_words::line::after_score` is safe and ends: its loop counts. The measure is the turns left. Assumes nothing.
+-- `test_words::line::after_score` is safe and ends: its loop counts. The measure is the turns left.
 use borrow.Author.Needs.{needs}
 use Prim.Native.Nat.{_-_}
 use Rattle.test_words.proofs.line.after_score.Statement.{statement}

@@ -1,4 +1,4 @@
--- `test_words::line::negative` meets its contract: the number is small enough to be taken from 0. Assumes nothing.
+-- `test_words::line::negative` meets its contract: the number is small enough to be taken from 0.
 use Prim.Native.Nat.{ℕ, zero, suc, _<_}
 use native.Mathlib.Omega.{arith}
 use lib.IntN.{pos, _-ℤ_}

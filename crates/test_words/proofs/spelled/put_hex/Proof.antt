@@ -1,4 +1,4 @@
--- `test_words::spelled::put_hex` is safe and ends: the output keeps its length. The measure is the turns left. Assumes nothing.
+-- `test_words::spelled::put_hex` is safe and ends: the output keeps its length. The measure is the turns left.
 use borrow.Author.Needs.{needs}
 use mathlib.Core.Path.{_≡_}
 use Prim.Native.Nat.{_-_}

@@ -1,4 +1,4 @@
--- `tree::character::all_known` meets its contract. Assumes nothing.
+-- `tree::character::all_known` meets its contract.
 use Prim.Native.Nat.{_-_, _≤_}
 use native.Mathlib.Omega.{arith}
 use lib.ListN.{length}

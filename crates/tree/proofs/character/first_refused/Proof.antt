@@ -1,4 +1,4 @@
--- `tree::character::first_refused` meets its contract: no byte before i is refused. Assumes nothing.
+-- `tree::character::first_refused` meets its contract: no byte before i is refused.
 use mathlib.Core.Path.{_≡_, sym, _∙_}
 use Prim.Native.Nat.{_+_, _-_, _≤_}
 use native.Mathlib.Omega.{arith}

@@ -1,10 +1,10 @@
--- `tree::character::is_known` meets its contract. Assumes nothing.
+-- `tree::character::is_known` meets its contract.
 use mathlib.Core.Path.{sym, ap, _∙_}
 use borrow.Author.Needs.{needs}
-use Rattle.tree.specs.Reading.{known}
 use Rattle.tree.proofs.FirstRefused.{known-or}
 use Rattle.tree.proofs.character.is_known.Statement.{statement}
 use Rattle.tree.proofs.character.is_known.Tie as tie
+use Rattle.tree.specs.inner.Building.{known}
 
 meaning-of-requires : tie.Need-meaning-of-requires
 meaning-of-requires c κs = search needs

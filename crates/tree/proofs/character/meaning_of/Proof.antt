@@ -1,4 +1,4 @@
--- `tree::character::meaning_of` meets its contract: each arm knows which byte it has. Assumes nothing.
+-- `tree::character::meaning_of` meets its contract: each arm knows which byte it has.
 use borrow.Author.Tests.{ne-eqb}
 use Rattle.tree.proofs.character.meaning_of.Statement.{statement}
 use Rattle.tree.proofs.character.meaning_of.Tie as tie

@@ -1,4 +1,4 @@
--- `tree::run::read_run`, `read_item`, `read_inside` and `read_rest` meet their contracts. Assumes nothing.
+-- `tree::run::read_run`, `read_item`, `read_inside` and `read_rest` meet their contracts.
 mod Claims
 mod Inside
 use mathlib.Core.Path.{sym, _∙_}

@@ -1,8 +1,8 @@
--- `tree::run::closes` meets its contract. Assumes nothing.
+-- `tree::run::closes` meets its contract.
 use mathlib.Core.Path.{sym, ap, _∙_}
 use borrow.Author.Needs.{needs}
 use Rattle.tree.specs.Reading.{meaningOf}
-use Rattle.tree.specs.Building.{closing}
+use Rattle.tree.specs.inner.Building.{closing}
 use Rattle.tree.proofs.Growing.{beyond}
 use Rattle.tree.proofs.Meanings.{not-closing}
 use Rattle.tree.proofs.run.closes.Statement.{statement}

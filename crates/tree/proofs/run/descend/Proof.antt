@@ -1,4 +1,4 @@
--- `tree::run::descend` meets its contract. Assumes nothing.
+-- `tree::run::descend` meets its contract.
 use mathlib.Core.Path.{_≡_, sym, subst, _∙_}
 use mathlib.Core.Logic.{_⊎_, inl, inr}
 use Prim.Native.Nat.{_-_}

@@ -1,5 +1,5 @@
 -- What the functions that read a run claim of one another. The number that falls is three times the bytes left, with one more for the run and
--- two for the rest of one. Assumes nothing.
+-- two for the rest of one.
 use Prim.Native.Nat.{ℕ, _<_, _+_, _*_, _-_}
 use lib.ListN.{length}
 use borrow.Fn.Kinds.{In}

@@ -1,10 +1,10 @@
--- What `tree::run::read_inside` leaves to prove: it has gone down, and each turn goes up by a byte. Assumes nothing.
+-- What `tree::run::read_inside` leaves to prove: it has gone down, and each turn goes up by a byte.
 use mathlib.Core.Path.{sym, _∙_}
 use mathlib.Core.List.{List}
 use Prim.Native.Nat.{ℕ}
 use native.Mathlib.Omega.{arith}
 use lib.ListN.{length-set}
-use Rattle.tree.specs.Building.{Descended}
+use Rattle.tree.specs.inner.Building.{Descended}
 use Rattle.tree.proofs.Growing.{fewer-nodes}
 use Rattle.tree.proofs.Descents.{Climbed, climb-start, climb-few, climb-onward, climb-end, climb-inside, climb-ready, climb-dot, climb-opens, climb-closed, climb-stuck}
 use Rattle.tree.proofs.run.+read_inside+read_item+read_rest+read_run.Proof.Claims.{read-inside-at, read-inside-claims}

@@ -1,9 +1,9 @@
--- What is built of a tree while a text is read. Assumes nothing.
+-- What is built of a tree while a text is read.
 use mathlib.Core.Path.{_≡_}
-use mathlib.Core.Bool.{Bool, true, false}
+use mathlib.Core.Bool.{Bool, true, false, _&&_}
 use mathlib.Core.Logic.{_⊎_}
 use Prim.Native.Nat.{ℕ, zero, suc, _+_, _≤_, _<_}
-use mathlib.Core.List.{List}
+use mathlib.Core.List.{List, [], _∷_}
 use lib.ListN.{length, getD, set, drop}
 use lib.Seq.{sets}
 use Rattle.tree.specs.Run.{Run, spell, size, leftsFrom}
@@ -11,7 +11,7 @@ use Rattle.tree.specs.Run.Run.{end, dot, pair}
 use Rattle.tree.specs.Reading.{meaningOf, first, runs}
 use Rattle.tree.specs.declared.character.Meaning.{Meaning}
 use Rattle.tree.specs.declared.character.Meaning.the-variants.{Unpaired, Opening, Closing, Refused}
-use Rattle.tree.specs.declared.run.Reached.{Reached}
+use Rattle.tree.specs.declared.run.ReadTo.{ReadTo}
 
 -- The run that is read from a byte of a text on.
 abbrev pub runAt : List ℕ → ℕ → Run
@@ -32,7 +32,7 @@ pub record Ready (s : List ℕ) (at n : ℕ) (left : List ℕ) : Type 0 where
 
 -- What is built once a run more is read: its bytes are passed, its nodes numbered on, and their leftmost leaves written. Where the reading
 -- is stuck, the leaves are whatever was written inside an opening byte that is never closed.
-pub record Grown (r : Run) (stuck : Type 0) (at n : ℕ) (left : List ℕ) (x : Reached) (after : List ℕ) : Type 0 where
+pub record Built (r : Run) (stuck : Type 0) (at n : ℕ) (left : List ℕ) (x : ReadTo) (after : List ℕ) : Type 0 where
   pub passed : x .at ≡ at + length (spell r)
   pub counted : x .n ≡ n + size r
   pub written : (stuck → ⊥) → after ≡ sets left n (leftsFrom n r)
@@ -42,12 +42,12 @@ abbrev pub OpensAt : List ℕ → ℕ → Type 0
 OpensAt s at = meaningOf (getD s at 0) ≡ Opening
 
 -- A run is stuck where it stops at an opening byte.
-abbrev pub RunRead : List ℕ → ℕ → ℕ → List ℕ → Reached → List ℕ → Type 0
-RunRead s at n left x after = Grown (runAt s at) (OpensAt s (x .at)) at n left x after
+abbrev pub RunRead : List ℕ → ℕ → ℕ → List ℕ → ReadTo → List ℕ → Type 0
+RunRead s at n left x after = Built (runAt s at) (OpensAt s (x .at)) at n left x after
 
 -- An item is stuck where it is not read past its opening byte.
-abbrev pub ItemRead : List ℕ → ℕ → ℕ → List ℕ → Reached → List ℕ → Type 0
-ItemRead s at n left x after = Grown (itemOf (runAt s at)) ((x .at ≡ at) × OpensAt s at) at n left x after
+abbrev pub ItemRead : List ℕ → ℕ → ℕ → List ℕ → ReadTo → List ℕ → Type 0
+ItemRead s at n left x after = Built (itemOf (runAt s at)) ((x .at ≡ at) × OpensAt s at) at n left x after
 
 -- Whether a byte of some meaning closes a bracket.
 abbrev pub closing : Meaning → Bool
@@ -83,7 +83,7 @@ abbrev pub Down : List ℕ → ℕ → ℕ → Type 0
 Down s at k = (i : ℕ) → i < k → (meaningOf (getD s (at + i) 0) ≡ Unpaired) ⊎ (meaningOf (getD s (at + i) 0) ≡ Opening)
 
 -- They are passed, up to a closing byte, a refused one or the end.
-pub record Descended (s : List ℕ) (at n : ℕ) (left : List ℕ) (x : Reached) (after : List ℕ) : Type 0 where
+pub record Descended (s : List ℕ) (at n : ℕ) (left : List ℕ) (x : ReadTo) (after : List ℕ) : Type 0 where
   pub bytes : ℕ
   pub passed : x .at ≡ at + bytes
   pub inside : x .at ≤ length s
@@ -91,3 +91,14 @@ pub record Descended (s : List ℕ) (at n : ℕ) (left : List ℕ) (x : Reached)
   pub counted : x .n ≡ nodesPast s at n bytes
   pub written : after ≡ leavesPast s at n left bytes
   pub stops : (meaningOf (getD s (x .at) 0) ≡ Closing) ⊎ (meaningOf (getD s (x .at) 0) ≡ Refused)
+
+-- Whether a byte of some meaning is not refused, and whether no byte of a text is.
+abbrev pub known : Meaning → Bool
+known Unpaired = true
+known Opening = true
+known Closing = true
+known Refused = false
+
+abbrev pub allKnown : List ℕ → Bool
+allKnown [] = true
+allKnown (c ∷ s) = known (meaningOf c) && allKnown s

@@ -1,4 +1,4 @@
--- What only the contracts of inner functions cite.
+-- The size and the parts of a deck that is written.
 use mathlib.Core.Bool.{cond}
 use mathlib.Core.List.{List, map, flatten}
 use Prim.Native.Nat.{ℕ, _+_}

@@ -21,7 +21,7 @@ withSeed t qs ts z = record {
 }
 
 -- There is room for one seed more, of as many q as t.
-pub record Room (t : Table) (qs ts : List ℕ) : Type 0 where
+pub record SeedRoom (t : Table) (qs ts : List ℕ) : Type 0 where
   pub laid : Laid t
   pub some : 1 ≤ length qs
   pub even : length ts ≡ length qs

@@ -26,12 +26,12 @@ abbrev pub filled : (ℕ → ℕ) → ℕ → List ℕ
 filled f n = tab n f ++ replicate (256 - n) 0
 
 -- Two gaps are the same, and not 0.
-unfoldable pub meets : ℕ → ℕ → Bool
-meets x y = eqb x y && not (eqb x 0)
+unfoldable pub sameGap : ℕ → ℕ → Bool
+sameGap x y = eqb x y && not (eqb x 0)
 
 -- The nodes, by their gaps, whose gap is x; and the pairs of nodes of two trees whose gaps are the same.
 unfoldable pub like : ℕ → List ℕ → ℕ → Bool
-like x g i = meets x (getD g i 0)
+like x g i = sameGap x (getD g i 0)
 
 unfoldable pub meet : List ℕ → List ℕ → ℕ → ℕ → Bool
 meet g h i = like (getD g i 0) h

@@ -1,5 +1,5 @@
 -- The table by which the best key is worked out, for the contracts of the functions that fill it. Items are the positions below a number, and
--- a table is a key for each position. Assumes nothing.
+-- a table is a key for each position.
 use mathlib.Core.Path.{_≡_}
 use mathlib.Core.Bool.{Bool, cond, _&&_, _||_}
 use Prim.Native.Nat.{ℕ, zero, suc, _^_, _<_, _≤_}
@@ -16,12 +16,12 @@ pub record Items : Type 0 where
   pub worth : ℕ → Key
 
 -- A lower item is chainable with a higher one if it is left of it or under it.
-abbrev pub chainable : Items → ℕ → ℕ → Bool
-chainable S x y = S .left x y || S .under x y
+abbrev pub itemsChainable : Items → ℕ → ℕ → Bool
+itemsChainable S x y = S .left x y || S .under x y
 
 -- The best key of a chain of the items below n that pass p.
-abbrev pub bestOf : Items → (ℕ → Bool) → ℕ → Key
-bestOf S p n = best (chainable S) (S .worth) p n
+abbrev pub bestAmong : Items → (ℕ → Bool) → ℕ → Key
+bestAmong S p n = best (itemsChainable S) (S .worth) p n
 
 -- How left and under compose among the items below n, and that left rises.
 pub record Laws (S : Items) (n : ℕ) : Type 0 where
@@ -46,7 +46,7 @@ pub record Limited (limit : ℕ) (score : ℕ → ℤ) (number : ℕ → ℕ) (w
 
 -- The key of an item with the best chain of the items under it.
 unfoldable pub withUnder : Items → ℕ → Key
-withUnder S y = S .worth y ⊕ bestOf S (λ x. S .under x y) y
+withUnder S y = S .worth y ⊕ bestAmong S (λ x. S .under x y) y
 
 -- The best of d k over the k below n that pass p, and of the empty chain.
 unfoldable pub maxBelow : (ℕ → Bool) → (ℕ → Key) → ℕ → Key
@@ -54,12 +54,12 @@ maxBelow p d zero = empty
 maxBelow p d (suc n) = cond (p n) (better (maxBelow p d n) (d n)) (maxBelow p d n)
 
 -- v has for each item below n its key with the best chain under it, or the empty chain's if that is better.
-unfoldable pub Filled : Items → (ℕ → Key) → ℕ → Type 0
-Filled S v n = (y : ℕ) → y < n → v y ≡ better empty (withUnder S y)
+unfoldable pub KeysUnder : Items → (ℕ → Key) → ℕ → Type 0
+KeysUnder S v n = (y : ℕ) → y < n → v y ≡ better empty (withUnder S y)
 
 -- d is a row over the items below n that pass p: the key of each in v, with the best of the row left of it.
-unfoldable pub Row : (ℕ → ℕ → Bool) → (ℕ → Bool) → (ℕ → Key) → (ℕ → Key) → ℕ → Type 0
-Row left p v d n = (k : ℕ) → k < n → T (p k) → d k ≡ v k ⊕ maxBelow (λ j. p j && left j k) d k
+unfoldable pub KeyRow : (ℕ → ℕ → Bool) → (ℕ → Bool) → (ℕ → Key) → (ℕ → Key) → ℕ → Type 0
+KeyRow left p v d n = (k : ℕ) → k < n → T (p k) → d k ≡ v k ⊕ maxBelow (λ j. p j && left j k) d k
 
 -- A key that is at least as good as the empty chain's, as it is stored: by two natural numbers.
 abbrev pub stored : ℕ → ℕ → Key

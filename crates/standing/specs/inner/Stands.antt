@@ -45,8 +45,8 @@ unfoldable pub widenedBy : ℕ → Bool → ℕ → ℕ → ℕ
 widenedBy mask on k more = cond on (bitOr (bitOr mask (2 ^ k)) more) mask
 
 -- Two masks with the seed at k, as it stands, and with what its own masks tell of it.
-abbrev pub withSeed : Masks → Stand → ℕ → ℕ → ℕ → Masks
-withSeed m s k before below = record { left = widenedBy (m .left) (s .left) k (bitOr before below); under = widenedBy (m .under) (s .under) k below }
+abbrev pub masksWidened : Masks → Stand → ℕ → ℕ → ℕ → Masks
+masksWidened m s k before below = record { left = widenedBy (m .left) (s .left) k (bitOr before below); under = widenedBy (m .under) (s .under) k below }
 
 -- The masks of the first y seeds tell more of how seeds stand to u: what is left of a seed that stands left of u, or under it, is left of u; and
 -- what is under a seed that stands under u is under u. None is both.

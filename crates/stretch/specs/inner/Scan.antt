@@ -1,12 +1,12 @@
--- The scan that finds a stretch in a text, byte by byte. Assumes nothing.
+-- The scan that finds a stretch in a text, byte by byte.
 use mathlib.Core.Path.{_≡_}
-use mathlib.Core.Bool.{Bool, true, false, cond}
+use mathlib.Core.Bool.{cond}
 use Prim.Native.Nat.{ℕ, _+_}
 use mathlib.Core.List.{List, [], _∷_}
 use lib.Dec.{leb, ltb}
 use Rattle.tree.specs.Run.{Run}
 use Rattle.tree.specs.Reading.{meaningOf, reading}
-use Rattle.tree.specs.Reading.Reading.{accepted}
+use Rattle.tree.specs.Reading.Reading.{textAccepted}
 use Rattle.stretch.specs.Stretch.{stretchIn, locatedBy}
 use Rattle.tree.specs.declared.character.Meaning.{Meaning}
 use Rattle.tree.specs.declared.character.Meaning.the-variants.{Unpaired, Opening, Closing, Refused}
@@ -20,23 +20,19 @@ endsOf Opening = 0
 endsOf Closing = 1
 endsOf Refused = 0
 
-abbrev pub bytesOf : Meaning → ℕ
-bytesOf Unpaired = 1
-bytesOf Opening = 0
-bytesOf Closing = 2
-bytesOf Refused = 0
+abbrev pub ownBytes : Meaning → ℕ
+ownBytes Unpaired = 1
+ownBytes Opening = 0
+ownBytes Closing = 2
+ownBytes Refused = 0
 
 -- One byte passed: a node that ends there counts, and so do its bytes if its number is a or more.
 abbrev pub counted : ℕ → ℕ → Scan → Scan
 counted a x c = record {
   at = c .at + 1;
   nodes = c .nodes + endsOf (meaningOf x);
-  width = c .width + cond (leb a (c .nodes)) (bytesOf (meaningOf x)) 0;
+  width = c .width + cond (leb a (c .nodes)) (ownBytes (meaningOf x)) 0;
 }
-
-abbrev pub pickScan : Bool → Scan → Scan → Scan
-pickScan true c d = c
-pickScan false c d = d
 
 abbrev pub unmoved : Scan
 unmoved = record { at = 0; nodes = 0; width = 0 }
@@ -44,8 +40,8 @@ unmoved = record { at = 0; nodes = 0; width = 0 }
 -- The bytes passed up to the one that ends node b.
 abbrev pub scanTo : ℕ → ℕ → Scan → List ℕ → Scan
 scanTo a b c [] = c
-scanTo a b c (x ∷ s) = pickScan (ltb b (c .nodes)) c (scanTo a b (counted a x c) s)
+scanTo a b c (x ∷ s) = cond (ltb b (c .nodes)) c (scanTo a b (counted a x c) s)
 
 -- What a search in an accepted text must answer.
 abbrev pub LocatedRight : List ℕ → ℕ → ℕ → Located → Type 0
-LocatedRight s a b l = (r : Run) → reading s ≡ accepted r → l ≡ locatedBy (stretchIn r a b)
+LocatedRight s a b l = (r : Run) → reading s ≡ textAccepted r → l ≡ locatedBy (stretchIn r a b)

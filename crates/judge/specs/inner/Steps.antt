@@ -1,4 +1,4 @@
--- What the judge's own functions ask of each other: rising lists of nodes, the rows of those below each, and the highest span nodes passed. Assumes nothing.
+-- What the judge's own functions ask of each other: rising lists of nodes, the rows of those below each, and the highest span nodes passed.
 use mathlib.Core.Path.{_≡_}
 use mathlib.Core.Bool.{Bool, true, false}
 use mathlib.Core.List.{List}
