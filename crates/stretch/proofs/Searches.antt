@@ -184,5 +184,5 @@ part-none s a b denied = go (reading s) denied
     in-tree nowhere h = (refl, refl)
 
     go : (x : Reading) → (located x a b .answer ≡ Accepted → ⊥) → (part x a b ≡ []) × (located x a b .from ≡ 0)
-    go (accepted r) h = in-tree (stretchIn r a b) h
-    go (refused g k) h = (refl, refl)
+    go (textAccepted r) h = in-tree (stretchIn r a b) h
+    go (textRefused g k) h = (refl, refl)
