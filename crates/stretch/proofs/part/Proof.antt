@@ -1,5 +1,8 @@
 -- `stretch::part` meets its contract: the bytes located spell the stretch, and lie where it stands in the text.
-use mathlib.Core.Path.{refl, sym, ap, _∙_}
+use mathlib.Core.Path.{_≡_, refl, sym, ap, _∙_}
+use mathlib.Core.List.{List, [], _∷_}
+use Prim.Native.Nat.{ℕ}
+use lib.ListN.{length}
 use native.Mathlib.Omega.{arith}
 use Rattle.stretch.specs.declared.search.Located.{Located}
 use Rattle.stretch.proofs.Searches.{part-of, part-none}
@@ -42,10 +45,15 @@ returns c = record {
   lies = omega (arith, ap (λ (l : Located). l .from) (c .before .before .before .locate .ensures));
 }
 
+-- A part of no bytes is empty, wherever it lies.
+nothing : (xs : List ℕ) → length xs ≡ 0 → xs ≡ []
+nothing [] e = refl
+nothing (x ∷ xs) e = absurd (omega (arith, e))
+
 returns-2 : tie.Need-returns-2
 returns-2 c =
     let none = part-none _ _ _ (λ e. denies (c .before .enum-told2 .given .1) (ap (λ (l : Located). l .answer) (c .before .before .before .locate .ensures) ∙ e)) in
-    record { spells = sym (none .0); own = refl; lies = omega (arith, none .1) }
+    record { spells = nothing _ (omega arith) ∙ sym (none .0); own = refl; lies = omega (arith, none .1) }
 
 pub part-spec : {M : Type 1} → statement M
 part-spec =
