@@ -11,13 +11,13 @@ use lib.Dec.{eqb}
 use Rattle.tree.specs.Nested.{leaf, Above, Nested}
 use Rattle.seed.specs.Seed.{_∈_, Agree, Mapping, Rising, Seed, qs, ts, qOf, tOf, lastPair}
 use Rattle.seed.specs.Area.{FitsAt}
-use Rattle.seed.specs.AreaList.{side}
+use Rattle.seed.specs.AreaList.{side, on-left, on-right, on-top, in-subtree}
 use Rattle.area.specs.inner.Gaps.{weight, gapFrom, gap}
 use Rattle.seed.specs.Pairs.{pairOf}
 use Rattle.seed.specs.declared.Pair.{Pair}
 use Rattle.seed.proofs.Trees.{own, nest}
 use Rattle.seed.proofs.Lists.{last-in}
-use Rattle.seed.proofs.Sides.{on-left, on-right, on-top, within, side-of, side-top, top-side, Level}
+use Rattle.seed.proofs.Sides.{side-of, side-top, top-side, Level}
 use Rattle.seed.proofs.Areas.{fits-level, level-fits}
 
 -- The gap from a list, by the side of its first node.
@@ -48,7 +48,7 @@ module _ (l : List ℕ) (i : ℕ) where
         | on-left e h ↦ more 256 (gap-left l i x xs k e) (gap-low xs (k + 256))
         | on-right e h ↦ more 1 (gap-right l i x xs k e) (gap-low xs (k + 1))
         | on-top e h ↦ inr (omega (arith, gap-top l i x xs k e))
-        | within e h ↦ inl (gap-in l i x xs k e)
+        | in-subtree e h ↦ inl (gap-in l i x xs k e)
       ]
     where
       more : (w : ℕ) → gapFrom l i (x ∷ xs) k ≡ gapFrom l i xs (k + w) → (gapFrom l i xs (k + w) ≡ 0) ⊎ (k + w ≤ gapFrom l i xs (k + w)) → (gapFrom l i (x ∷ xs) k ≡ 0) ⊎ (k ≤ gapFrom l i (x ∷ xs) k)
@@ -65,7 +65,7 @@ module _ (l : List ℕ) (i : ℕ) where
         | on-left e u ↦ absurd (omega arith)
         | on-right e u ↦ more (gap-right l i x xs k e) (gap-high xs (k + 1) (λ y m. h y (List·Memᴰ·tail m)) o)
         | on-top e u ↦ inr (omega (arith, gap-top l i x xs k e))
-        | within e u ↦ absurd (omega arith)
+        | in-subtree e u ↦ absurd (omega arith)
       ]
     where
       more : gapFrom l i (x ∷ xs) k ≡ gapFrom l i xs (k + 1) → (gapFrom l i xs (k + 1) ≡ 0) ⊎ (gapFrom l i xs (k + 1) < k + 1 + length xs) → (gapFrom l i (x ∷ xs) k ≡ 0) ⊎ (gapFrom l i (x ∷ xs) k < k + suc (length xs))
@@ -81,7 +81,7 @@ module _ (l : List ℕ) (i : ℕ) where
         | on-left e u ↦ later (gap-above xs (k + 256) (λ z. h (gap-left l i x xs k e ∙ z)))
         | on-right e u ↦ later (gap-above xs (k + 1) (λ z. h (gap-right l i x xs k e ∙ z)))
         | on-top e u ↦ (x, List·Memᴰ·head refl, u)
-        | within e u ↦ absurd (h (gap-in l i x xs k e))
+        | in-subtree e u ↦ absurd (h (gap-in l i x xs k e))
       ]
     where
       later : ((y : ℕ) × (y ∈ xs) × Above l y i) → (y : ℕ) × (y ∈ (x ∷ xs)) × Above l y i
@@ -95,7 +95,7 @@ module _ (l : List ℕ) (i : ℕ) where
         | on-left f u ↦ omega (arith, gap-left l i y ys k f, above-gap ys (k + 256) (omega arith) (λ z n. h z (List·Memᴰ·tail n)) x (later (λ z. omega (arith, ap (λ (n : ℕ). side l n i) z))) e)
         | on-right f u ↦ omega (arith, gap-right l i y ys k f, above-gap ys (k + 1) (omega arith) (λ z n. h z (List·Memᴰ·tail n)) x (later (λ z. omega (arith, ap (λ (n : ℕ). side l n i) z))) e)
         | on-top f u ↦ omega (arith, gap-top l i y ys k f)
-        | within f u ↦ absurd (h y (List·Memᴰ·head refl) f)
+        | in-subtree f u ↦ absurd (h y (List·Memᴰ·head refl) f)
       ]
     where
       later : ¬ (x ≡ y) → x ∈ ys
@@ -117,7 +117,7 @@ module _ {l : List ℕ} (tree : Nested l) (i : ℕ) where
             seen-right e f (omega (arith, low 1 f (gap-low l i xs (k + 1))))
             (high f (gap-high l i xs (k + 1) (λ y m. omega (arith, rise y m, own tree x)) (own tree i)))
         | on-top e u ↦ seen-top e u (gap-top l i x xs k e)
-        | within e u ↦ absurd (some (gap-in l i x xs k e))
+        | in-subtree e u ↦ absurd (some (gap-in l i x xs k e))
       ]
     where
       low : (w : ℕ) → gapFrom l i (x ∷ xs) k ≡ gapFrom l i xs (k + w) → (gapFrom l i xs (k + w) ≡ 0) ⊎ (k + w ≤ gapFrom l i xs (k + w)) → k + w ≤ gapFrom l i (x ∷ xs) k
@@ -135,7 +135,7 @@ module _ {l : List ℕ} (tree : Nested l) (i : ℕ) where
         | on-left e u ↦ absurd (omega (arith, own tree i))
         | on-right e u ↦ inl (e, λ a. omega (arith, nest tree x y (omega arith)))
         | on-top e u ↦ inr (e, omega arith)
-        | within e u ↦ absurd (omega arith)
+        | in-subtree e u ↦ absurd (omega arith)
       ]
 
 module _ {Q T : List ℕ} (tree-q : Nested Q) (tree-t : Nested T) (i j : ℕ) where
