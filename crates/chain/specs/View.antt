@@ -1,6 +1,6 @@
 -- The state that a session stands for, what every session that is handed over has, and what a call promises of it.
 use mathlib.Core.Path.{_≡_}
-use Prim.Native.Nat.{ℕ, _≤_}
+use Prim.Native.Nat.{_≤_}
 use Rattle.answer.specs.declared.Answer.{Answer}
 use Rattle.answer.specs.declared.Answer.the-variants.{Accepted}
 use Rattle.table.specs.Table.{rowsOf, Kept}

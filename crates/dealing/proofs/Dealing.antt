@@ -1,7 +1,7 @@
 -- What dealing answers and hands over, in each case of the code.
-use mathlib.Core.Path.{_≡_, refl, sym, ap, ap₂, subst, _∙_}
-use mathlib.Core.List.{List, []}
-use Prim.Native.Nat.{ℕ, _<_}
+use mathlib.Core.Path.{_≡_, refl, sym, ap, subst, _∙_}
+use mathlib.Core.List.{List}
+use Prim.Native.Nat.{ℕ}
 use native.Mathlib.Omega.{arith}
 use lib.ListN.{length}
 use Rattle.answer.specs.Answer.{unless}
@@ -13,12 +13,11 @@ use Rattle.answer.proofs.Given.{unless-refused}
 use Rattle.answer.proofs.Denied.{denies}
 use Rattle.tree.specs.Reading.{IsTree, treeOf, single, leavesOf}
 use Rattle.tree.specs.declared.Tree.{Tree}
-use Rattle.table.specs.Rows.{Row, noRow}
 use Rattle.table.specs.Table.{rowsOf, noSeeds, Kept}
 use Rattle.table.specs.declared.Table.{Table}
 use Rattle.table.proofs.Tables.{laid-none, rows-none}
 use Rattle.deck.specs.Deck as deck
-use Rattle.deck.specs.Handed.{deckReadAnswer, rowsIn, Reads}
+use Rattle.deck.specs.Handed.{rowsIn, Reads}
 use Rattle.deck.specs.declared.DeckRead.{DeckRead}
 use Rattle.dealing.specs.Texts.{bothRead}
 use Rattle.dealing.specs.Seeds.{seedsAnswer}

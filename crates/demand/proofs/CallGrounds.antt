@@ -1,9 +1,8 @@
 -- Of every session that a list of calls handed over: what a call of it answers is what the grounds say of the state by the history, and nothing
 -- else may be answered.
-use mathlib.Core.Path.{_≡_, refl, sym, ap, subst}
+use mathlib.Core.Path.{_≡_, sym, subst}
 use mathlib.Core.List.{List}
 use Prim.Native.Nat.{ℕ}
-use Rattle.answer.specs.Answer.{decide}
 use Rattle.answer.specs.Grounds.{Decides}
 use Rattle.answer.specs.declared.Answer.{Answer}
 use Rattle.tree.proofs.Trees.{tree-nested}

@@ -19,7 +19,7 @@ use Rattle.seed.proofs.Tells.{tells-in, tells-below}
 use Rattle.seed.proofs.Sides.{tells-spans}
 use Rattle.seed.proofs.Search.{least}
 use Rattle.judge.proofs.JudgeSteps.{last-node-at, spans-in, paired-in, paired-by, walk-start, walk-no}
-use Rattle.judge.specs.inner.Steps.{Cut, UnderLast, Joined, Joins, Reaching, Past, Passing, Climbing, Passed}
+use Rattle.judge.specs.inner.Steps.{Cut, UnderLast, Joined, Joins, Reaching, Past, Climbing, Passed}
 use Rattle.judge.specs.inner.Steps.Joined.{whole, broken}
 use Rattle.judge.specs.inner.Steps.Passed.{fine, bare}
 use Rattle.judge.proofs.Rising.{at-in, in-at, ups-most}

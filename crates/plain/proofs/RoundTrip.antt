@@ -2,14 +2,12 @@
 -- what is written of a table reads as its present rows.
 use mathlib.Core.Path.{_≡_, refl, ap, ap₂, subst, _∙_}
 use mathlib.Core.Bool.{Bool, true, false, cond}
-use mathlib.Core.List.{List, [], _∷_, _++_, flatten}
+use mathlib.Core.List.{List, [], _∷_, flatten}
 use Prim.Native.Nat.{ℕ, zero, suc, _+_, _*_, _≤_, _<_}
 use native.Mathlib.Omega.{arith}
-use lib.ListN.{length, getD, take, drop, length-map}
-use lib.Seq.{take-at}
+use lib.ListN.{length, getD, take, length-map}
 use lib.IntN.{pos}
 use lib.Signed.{mag}
-use borrow.Author.Tests.{le-leb}
 use Rattle.seed.specs.Tab.{tab}
 use Rattle.table.specs.Rows.{Row, noRow, presentRows, pairsOfRow}
 use Rattle.table.specs.Table.{rowAt, rowsOf, Laid}

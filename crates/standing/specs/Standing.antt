@@ -1,10 +1,9 @@
 -- The present seeds of a table in order, and how they stand to one another (document 01, "Pairs, seeds, chains"). Seeds are numbered from 0
 -- here.
 use mathlib.Core.Path.{_≡_}
-use mathlib.Core.Bool.{Bool, true}
+use mathlib.Core.Bool.{true}
 use mathlib.Core.List.{List}
 use Prim.Native.Nat.{ℕ, _+_, _*_, _≤_, _<_}
-use lib.IntN.{ℤ}
 use lib.ListN.{length, getD}
 use Rattle.seed.specs.AreaList as seed
 use Rattle.seed.specs.Seed.{lastPair}

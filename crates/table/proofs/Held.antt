@@ -1,12 +1,11 @@
 -- Rows that hold seeds, with one row more and with another row at one place; and the table with that row.
-use mathlib.Core.Path.{_≡_}
 use mathlib.Core.List.{List, [], _∷_, _++_}
 use Prim.Native.Nat.{ℕ, zero, suc, _<_}
 use native.Mathlib.Omega.{arith}
-use lib.ListN.{length, getD, set}
+use lib.ListN.{length, set}
 use Rattle.tree.specs.Reading.{leavesOf}
 use Rattle.tree.specs.declared.Tree.{Tree}
-use Rattle.table.specs.Rows.{Row, noRow, Holds, AllHold}
+use Rattle.table.specs.Rows.{Row, Holds, AllHold}
 use Rattle.table.specs.Table.{rowsOf, Kept, HasRows}
 use Rattle.table.specs.declared.Table.{Table}
 

@@ -44,7 +44,7 @@ use denote.Triple.Walked.{says, needs, Stays, stay-ref, stay-none, walkOf, AllGo
 use denote.Triple.Clauses.{ensured, lasts}
 use denote.Exit.{yes}
 use Rattle.chain.specs.Acts.{rescore}
-use Rattle.chain.specs.View.{view, Sound, Does}
+use Rattle.chain.specs.View.{Sound, Does}
 use Rattle.chain.specs.declared.Session.{Session}
 use Rattle.chain.specs.declared.Changed.{Changed}
 use Rattle.chain.proofs.Session as T

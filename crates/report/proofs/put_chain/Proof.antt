@@ -1,5 +1,4 @@
 -- `report::put_chain` meets its contract: 256 bytes have room for all lines.
-use mathlib.Core.Path.{ap}
 use Rattle.lines.proofs.Printed.{printed-fits}
 use Rattle.report.proofs.Reports.{chain-few, chain-zeros, put-by, put-fits}
 use borrow.Author.Needs.{needs}

@@ -4,7 +4,6 @@ use Prim.Native.Nat.{_≤_, _-_}
 use native.Mathlib.Omega.{arith}
 use lib.ListN.{length}
 use lib.Seq.{paste, paste-zero}
-use borrow.Author.Needs.{needs}
 use Rattle.adding.proofs.Copying.{paste-more, paste-done}
 use Rattle.adding.proofs.appending.paste.Statement.{statement}
 use Rattle.adding.proofs.appending.paste.Tie as tie

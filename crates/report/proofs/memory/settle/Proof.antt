@@ -1,6 +1,6 @@
 -- `report::memory::settle` meets its contract: each arm knows what was answered.
 use mathlib.Core.Path.{sym, ap, _∙_}
-use mathlib.Core.List.{List, _++_}
+use mathlib.Core.List.{_++_}
 use Prim.Native.Nat.{ℕ, _-_}
 use lib.ListN.{length, take, drop, replicate}
 use Rattle.answer.specs.declared.Answer.{Answer}
