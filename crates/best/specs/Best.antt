@@ -49,7 +49,7 @@ keyOf Q T rows = optimum.best (λ i j. chainable Q T (rowIn rows i .pairs) (rowI
 abbrev pub bestOfKey : Key → Best
 bestOfKey k = record { answer = Accepted; total = natAbs (k .total); chain = tab 64 (inMask (k .mask)) }
 
--- What is answered on that ground.
+-- What is answered on ground 21.
 abbrev pub tooShort : Best
 tooShort = record { answer = Refused ScratchShort Nothing; total = 0; chain = replicate 64 false }
 

@@ -50,6 +50,7 @@ addAnswer s ps z = unless (nextAnswer (leavesOf (s .q)) (leavesOf (s .t)) (s .ro
 abbrev pub moveAnswer : State → ℕ → Bool → Answer
 moveAnswer s k to = ofNumber s k (given (Bool·beq (rowOf (s .rows) k .present) to) PresenceAsAsked Nothing (countAnswer (s .changes)))
 
+-- What a rescoring answers.
 abbrev pub rescoreAnswer : State → ℕ → ℤ → Answer
 rescoreAnswer s k z = ofNumber s k (given (not (inRange z)) ScoreRange (Seed k) (countAnswer (s .changes)))
 

@@ -21,7 +21,7 @@ use Rattle.dealing.specs.declared.texts.TwoTrees.{TwoTrees}
 use Rattle.dealing.specs.Deal.{Deal, dealBy, dealAnswer, dealOf}
 use Rattle.chain.specs.State.{State}
 use Rattle.chain.specs.Opening.{Outcome, startWith, opening, deckOpening}
-use Rattle.demand.specs.Demands.{OpenedOn}
+use Rattle.demand.specs.Demands.{OpenedOn, OpenedOnSome}
 use Rattle.demand.specs.Demands.OpenedOn.{texts, deck, texts-refused, deck-refused}
 
 -- A run that spells a text has at most 255 nodes, and its tree their leftmost leaves.
@@ -76,14 +76,11 @@ both-accepted q t (textAccepted r) (textAccepted p) e f ok = (r, p, (accepted-ex
 both-accepted q t (textAccepted r) (textRefused g k) e f ok = absurd (denies {x = Refused g (ByteInT k)} refl ok)
 both-accepted q t (textRefused g k) y e f ok = absurd (denies {x = Refused g (ByteInQ k)} refl ok)
 
-abbrev OnSome : Outcome → Type 0
-OnSome o = (r : Run) × (p : Run) × (rows : List Row) × OpenedOn o r p rows
-
-pub every-opening : (q t : List ℕ) → OnSome (opening q t)
+pub every-opening : (q t : List ℕ) → OpenedOnSome (opening q t)
 unfolding opening bothRead
 every-opening q t = go (bothRead q t .answer) refl
   where
-    go : (a : Answer) → bothRead q t .answer ≡ a → OnSome (opening q t)
+    go : (a : Answer) → bothRead q t .answer ≡ a → OpenedOnSome (opening q t)
     go Accepted e = let w = both-accepted q t (reading q) (reading t) refl refl e in (w .0, w .1, [], texts q t (w .2 .0) (w .2 .1))
     go (Refused g p) e = (single, single, [], texts-refused q t (denies e))
 
@@ -91,10 +88,10 @@ texts-accepted : (a b : Answer) (whole : Deal) → dealBy (unless a b) whole .an
 texts-accepted Accepted b whole e = refl
 texts-accepted (Refused g p) b whole e = absurd (denies {x = Refused g p} refl e)
 
-pub every-deck-opening : (q t d : List ℕ) → OnSome (deckOpening q t d)
+pub every-deck-opening : (q t d : List ℕ) → OpenedOnSome (deckOpening q t d)
 unfolding deckOpening dealOf dealAnswer bothRead
 every-deck-opening q t d = go (deckOpening q t d .answer) refl
   where
-    go : (a : Answer) → deckOpening q t d .answer ≡ a → OnSome (deckOpening q t d)
+    go : (a : Answer) → deckOpening q t d .answer ≡ a → OpenedOnSome (deckOpening q t d)
     go Accepted e = let w = both-accepted q t (reading q) (reading t) refl refl (texts-accepted (bothRead q t .answer) _ _ e) in (w .0, w .1, rowsIn (deck.deckReading d), deck q t d (w .2 .0) (w .2 .1) e)
     go (Refused g p) e = (single, single, [], deck-refused q t d (denies e))

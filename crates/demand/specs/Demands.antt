@@ -50,6 +50,10 @@ pub data OpenedOn : Outcome → Run → Run → List Row → Type 0 where
   texts-refused : (q t : List ℕ) → (opening q t .answer ≡ Accepted → ⊥) → OpenedOn (opening q t) single single []
   deck-refused : (q t d : List ℕ) → (deckOpening q t d .answer ≡ Accepted → ⊥) → OpenedOn (deckOpening q t d) single single []
 
+-- It is one of these, whatever its runs and rows.
+abbrev pub OpenedOnSome : Outcome → Type 0
+OpenedOnSome o = (r : Run) × (p : Run) × (rows : List Row) × OpenedOn o r p rows
+
 -- The table by the history of a session on the trees of two runs that was opened with these rows.
 abbrev pub tableBy : Run → Run → List Row → List Event → List Row
 tableBy r p rows h = stateOf (startWith (treeOf r) (treeOf p) rows) h .rows

@@ -22,7 +22,7 @@ pub record Starts (out : List ℕ) (n : ℕ) (bytes : List ℕ) : Type 0 where
   pub within : n ≤ length out
   pub are : take n out ≡ bytes
 
--- A run of the program: the output starts with the lines of the first bytes of the input, as many as were read.
+-- A run of the program: the output starts with the lines of some first bytes of the input. Which were read no contract of `io` says.
 pub record Ran (input out : List ℕ) : Type 0 where
   pub read : ℕ
   pub printed : ℕ

@@ -134,7 +134,7 @@ never-accepted false false p e = denies {x = Refused PairLimit p} refl e
 abbrev manyAnswer : State → ℤ → Answer
 manyAnswer s z = tooMany (not (inRange z)) (leb 64 (length (s .rows))) (Seed (length (s .rows) + 1))
 
-pub add-many : (s : State) (ps : List Pair) (z : ℤ) → 1024 < length ps → addAnswer s ps z ≡ manyAnswer s z
+add-many : (s : State) (ps : List Pair) (z : ℤ) → 1024 < length ps → addAnswer s ps z ≡ manyAnswer s z
 unfolding nextAnswer
 add-many s ps z h =
     let judged : Answer = judgeOf (leavesOf (s .q)) (leavesOf (s .t)) ps (length (s .rows) + 1) in
@@ -145,7 +145,7 @@ add-many s ps z h =
     ∙ denied (not (inRange z)) (leb 64 (length (s .rows))) number counted
 
 -- So an add of more pairs answers the same whatever they are, and is refused.
-alike-many : (s : State) (ps ps′ : List Pair) (z : ℤ) → 1024 < length ps → 1024 < length ps′ → grounds s (add ps z) ≡ grounds s (add ps′ z)
+pub alike-many : (s : State) (ps ps′ : List Pair) (z : ℤ) → 1024 < length ps → 1024 < length ps′ → grounds s (add ps z) ≡ grounds s (add ps′ z)
 unfolding grounds
 alike-many s ps ps′ z h h′ = rw (add-many s ps z h, add-many s ps′ z h′)
 

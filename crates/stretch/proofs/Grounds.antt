@@ -10,8 +10,8 @@ use Rattle.answer.proofs.Grounds.{ground, stops, goes-on}
 use Rattle.tree.specs.Run.{Run}
 use Rattle.tree.specs.Reading.{Reading, reading}
 use Rattle.tree.specs.Reading.Reading.{textAccepted, textRefused}
-use Rattle.tree.proofs.Grounds.{text-decides, accepted-spell, accepted-exactly}
-use Rattle.stretch.specs.Stretch.{Stretch, Found, stretchIn, locatedBy, checkOf}
+use Rattle.tree.proofs.Grounds.{text-decides, accepted-exactly}
+use Rattle.stretch.specs.Stretch.{SomeStretch, Found, stretchIn, locatedBy, checkOf}
 use Rattle.stretch.specs.Stretch.Found.{at, nowhere}
 use Rattle.stretch.specs.Grounds.{IsStretch, StretchSays}
 use Rattle.stretch.proofs.Stretches.{stretches, no-stretch}
@@ -20,17 +20,16 @@ module _ (s : List ℕ) (a b : ℕ) where
   -- Ground 15, of a text that is accepted with a run: no other run spells it.
   nodes-decide : (r : Run) → reading s ≡ textAccepted r → (x : Found) → stretchIn r a b ≡ x → Decides (GivenIf (¬ IsStretch s a b) 15 Nothing) (locatedBy x .answer)
   nodes-decide r e (at k y) f =
-      let w = accepted-spell s r e in
-      let is : IsStretch s a b = record { run = r; spells = w .0; meant = w .1; before = k; items = y; stretch = stretches r a b k y .0 f } in
+      let is : IsStretch s a b = record { run = r; spells = accepted-exactly s r .0 e; stretch = (k, y, stretches r a b k y .0 f) } in
       ground false (λ z. absurd (false≢true z), λ n. absurd (n is)) OutsideTree Nothing
   nodes-decide r e nowhere f = ground true (λ z. none, λ n. refl) OutsideTree Nothing
     where
       none : IsStretch s a b → ⊥
       none w =
-          let text = accepted-exactly s r .0 e in
-          let other : reading s ≡ textAccepted (w .run) = accepted-exactly s (w .run) .1 (record { bytes = w .spells; meant = w .meant; some = text .some; few = text .few }) in
+          let other : reading s ≡ textAccepted (w .run) = accepted-exactly s (w .run) .1 (w .spells) in
           let same : w .run ≡ r = cc in
-          no-stretch r a b .0 f (w .before) (w .items) (subst (λ (q : Run). Stretch q a b (w .before) (w .items)) same (w .stretch))
+          let found : SomeStretch r a b = subst (λ (q : Run). SomeStretch q a b) same (w .stretch) in
+          no-stretch r a b .0 f (found .0) (found .1) (found .2)
 
   pub check-decides : Decides (StretchSays s a b) (checkOf s a b)
   unfolding checkOf

@@ -1,23 +1,19 @@
 -- What the check of a run of nodes must say (document 01, grounds 1 to 4 and 15).
-use mathlib.Core.Path.{_≡_}
 use Prim.Native.Nat.{ℕ}
 use mathlib.Core.List.{List}
 use Rattle.answer.specs.Answer.{Said}
 use Rattle.answer.specs.Grounds.{GivenIf, _then_}
 use Rattle.answer.specs.declared.Place.the-variants.{Nothing}
-use Rattle.tree.specs.Run.{Run, spell}
-use Rattle.tree.specs.Reading.{Meant}
+use Rattle.tree.specs.Run.{Run}
+use Rattle.tree.specs.Reading.{Spells}
 use Rattle.tree.specs.Grounds.{TextSays}
-use Rattle.stretch.specs.Stretch.{Stretch}
+use Rattle.stretch.specs.Stretch.{SomeStretch}
 
 -- The nodes a to b of a text are a stretch: one of the run that spells the text.
 pub record IsStretch (s : List ℕ) (a b : ℕ) : Type 0 where
   pub run : Run
-  pub spells : s ≡ spell run
-  pub meant : Meant run
-  pub before : ℕ
-  pub items : Run
-  pub stretch : Stretch run a b before items
+  pub spells : Spells run s
+  pub stretch : SomeStretch run a b
 
 -- What is said of the nodes a to b of a text: a run that is not a stretch gives no place.
 abbrev pub StretchSays : List ℕ → ℕ → ℕ → Said → Type 0

@@ -31,7 +31,7 @@ pub record Stretch (r : Run) (a b : ℕ) (k : ℕ) (y : Run) : Type 0 where
   pub siblings : Siblings y r a k
   pub count : size y ≡ b - a + 1
 
--- They are one, whatever its items and the bytes before them.
+-- The nodes a to b of the tree of r are a stretch, whatever its items and the bytes before them.
 abbrev pub SomeStretch : Run → ℕ → ℕ → Type 0
 SomeStretch r a b = (k : ℕ) × (y : Run) × Stretch r a b k y
 
