@@ -1,10 +1,10 @@
 -- What the call answers: the refusal, and the best chain of a table's seeds by the table on the scratch.
 use mathlib.Core.Path.{_≡_, sym, ap}
-use mathlib.Core.Bool.{Bool, true}
+use mathlib.Core.Bool.{Bool, true, false}
 use mathlib.Core.List.{List}
 use Prim.Native.Nat.{ℕ, _≤_, _<_}
 use native.Mathlib.Omega.{arith}
-use borrow.Author.Tests.{lt-ltb, le-ltb}
+use lib.Dec.{ltb}
 use lib.IntN.{pos, negsuc}
 use lib.ListN.{length, replicate}
 use lib.Signed.{_≤ℤ_, leZ, leZ-yes}
@@ -29,16 +29,16 @@ use Rattle.standing.specs.declared.Standing.{Standing}
 use Rattle.best.proofs.Listing.{posed, key-is}
 
 module _ (q t : Tree) (table : Table) where
-  pub best-refused : (xs : List ℕ) → length xs < scratchNeeded → Answered q t table xs xs tooShort
+  pub best-refused : (xs : List ℕ) → ltb (length xs) scratchNeeded ≡ true → Answered q t table xs xs tooShort
   unfolding bestOf scratchAfter
-  best-refused xs h = record { answer = rw (lt-ltb (length xs) scratchNeeded h); scratch = rw (lt-ltb (length xs) scratchNeeded h) }
+  best-refused xs short = record { answer = rw short; scratch = rw short }
 
-  pub best-accepted : (xs ys zs : List ℕ) (total mask : ℕ) (chain : List Bool) → scratchNeeded ≤ length xs → stored total mask ≡ keyOf (leavesOf q) (leavesOf t) (rowsOf table) → chain ≡ tab 64 (inMask mask) → length ys ≡ length xs → zs ≡ replicate (length ys) 0 → Answered q t table xs zs (record { answer = Accepted; total = total; chain = chain })
+  pub best-accepted : (xs ys zs : List ℕ) (total mask : ℕ) (chain : List Bool) → ltb (length xs) scratchNeeded ≡ false → stored total mask ≡ keyOf (leavesOf q) (leavesOf t) (rowsOf table) → chain ≡ tab 64 (inMask mask) → length ys ≡ length xs → zs ≡ replicate (length ys) 0 → Answered q t table xs zs (record { answer = Accepted; total = total; chain = chain })
   unfolding bestOf scratchAfter
   best-accepted xs ys zs total mask chain room e c l z =
       record {
-        answer = rw (le-ltb (length xs) scratchNeeded room, ← e, c);
-        scratch = rw (le-ltb (length xs) scratchNeeded room, ← l) z;
+        answer = rw (room, ← e, c);
+        scratch = rw (room, ← l) z;
       }
 
   -- The table on the scratch, of the seeds as they stand.

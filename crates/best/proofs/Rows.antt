@@ -22,6 +22,7 @@ use Rattle.optimum.proofs.Split.{Down, down-under}
 use Rattle.optimum.proofs.Recurrence.{row-next, row-rises, row-best, filled-next}
 use Rattle.optimum.proofs.Bounds.{entry-small, best-small, under-small}
 use Rattle.standing.specs.Standing.{numberAt}
+use Rattle.best.specs.Best.{scratchNeeded}
 use Rattle.best.specs.inner.Scratch.{keyAt, itemBank, rowBank, marked, scoreBy, itemsOf, RowRises, entryOf, EntryRoom, RowRoom, RowFilled, Posed, ItemsFilled}
 use Rattle.standing.specs.declared.Standing.{Standing}
 use Rattle.masks.proofs.Bits.{common, all-ones}
@@ -143,7 +144,7 @@ module _ (s : Standing) (scores : List ℤ) (h : Posed s scores) where
 
   -- A row over the first y items, of those in a mask that has with an item all under it.
   module _ (row : ℕ) (dp : Down S (inMask row) n) (y : ℕ) (b : y ≤ n) (xs : List ℕ) (f : KeysUnder S (keyAt xs itemBank) y) where
-    room : 256 ≤ length xs → RowRoom xs lefts row y
+    room : scratchNeeded ≤ length xs → RowRoom xs lefts row y
     unfolding KeysUnder
     room long =
         record {
@@ -162,7 +163,7 @@ module _ (s : Standing) (scores : List ℤ) (h : Posed s scores) where
   unfolding KeysUnder
   items-start xs = record { long = refl; filled = λ y b. absurd (omega arith) }
 
-  module _ (xs₀ : List ℕ) (long : 256 ≤ length xs₀) where
+  module _ (xs₀ : List ℕ) (long : scratchNeeded ≤ length xs₀) where
     -- The next item, y, with the row of those under it.
     module _ (y : ℕ) (b : y < n) (xs : List ℕ) (f : ItemsFilled S xs₀ y xs) where
       pub item-room : RowRoom xs lefts (getD unders y 0) y

@@ -24,7 +24,7 @@ use Rattle.best.specs.declared.Best.{Best}
 
 -- Ground 21: the scratch has fewer numbers than this.
 abbrev pub scratchNeeded : ℕ
-scratchNeeded = 4096
+scratchNeeded = 256
 
 -- The seeds to choose from, of which two are chainable by document 01's own words.
 abbrev pub seedsOf : List ℕ → List ℕ → List Row → Seeds

@@ -14,10 +14,11 @@ use tree::Tree;
 ghost use mathlib.Core.Path.{_≡_};
 ghost use lib.ListN.{length, replicate};
 ghost use Rattle.table.specs.Table.{Kept};
-ghost use Rattle.best.specs.Best.{tooShort, Answered};
+ghost use lib.Dec.{ltb};
+ghost use Rattle.best.specs.Best.{scratchNeeded, tooShort, Answered};
 
 // How many numbers the scratch must have.
-const SCRATCH: usize = 4096;
+pub const SCRATCH: usize = 256;
 
 // The total of the best chain, and for each seed number, counted from 0, whether the chain has it.
 pub struct Best {
@@ -26,7 +27,14 @@ pub struct Best {
     pub chain: [bool; 64],
 }
 
-// Ground 21.
+// Ground 21: whether a scratch of so many numbers is too short.
+pub fn scratch_short(numbers: usize) -> bool
+    ensures { λ r. ⌜ r ≡ ltb numbers scratchNeeded ⌝ }
+{
+    numbers < SCRATCH
+}
+
+// What is answered on ground 21.
 fn too_short() -> Best
     ensures { λ r. ⌜ r ≡ tooShort ⌝ }
 {
@@ -53,7 +61,7 @@ pub fn best_chain(q: Tree, t: Tree, table: Table, scratch: &mut [u64]) -> Best
     requires { ⌜ Kept q t table ⌝ }
     ensures { λ r. ⌜ Answered q t table (now (scratch .entry)) (now (scratch .exit)) r ⌝ }
 {
-    if scratch.len() < SCRATCH {
+    if scratch_short(scratch.len()) {
         return too_short();
     }
     let standing = stood(q, t, table);

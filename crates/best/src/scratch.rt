@@ -17,6 +17,7 @@ ghost use Prim.Native.Nat.{_≤_};
 ghost use lib.ListN.{length};
 ghost use Rattle.optimum.specs.Key.{inMask};
 ghost use Rattle.optimum.specs.inner.Table.{bestAmong, maxBelow, stored};
+ghost use Rattle.best.specs.Best.{scratchNeeded};
 ghost use Rattle.best.specs.inner.Scratch as spec;
 
 // Where the bank begins that has each item's key with the best chain under it.
@@ -77,7 +78,7 @@ fn fill_row(scratch: &mut [u64], lefts: &[u64], row: u64, n: usize) -> Stored
 
 // Fills in the key of each item with the best chain under it.
 fn fill_items(scratch: &mut [u64], standing: Standing, scores: &[i32; 64])
-    requires { ⌜ spec.Posed standing (now scores) ⌝ ∗ ⌜ 256 ≤ length (now scratch) ⌝ }
+    requires { ⌜ spec.Posed standing (now scores) ⌝ ∗ ⌜ scratchNeeded ≤ length (now scratch) ⌝ }
     ensures { λ r. ⌜ spec.ItemsFilled (spec.itemsOf standing (now (scores .entry))) (now (scratch .entry)) (standing .count) (now (scratch .exit)) ⌝ }
 {
     let lefts = standing.lefts;
@@ -93,7 +94,7 @@ fn fill_items(scratch: &mut [u64], standing: Standing, scores: &[i32; 64])
 
 // The best key of a chain of the items.
 pub fn solve(scratch: &mut [u64], standing: Standing, scores: &[i32; 64]) -> Stored
-    requires { ⌜ spec.Posed standing (now scores) ⌝ ∗ ⌜ 256 ≤ length (now scratch) ⌝ }
+    requires { ⌜ spec.Posed standing (now scores) ⌝ ∗ ⌜ scratchNeeded ≤ length (now scratch) ⌝ }
     ensures { λ r. ⌜ stored (r .total) (r .mask) ≡ bestAmong (spec.itemsOf standing (now (scores .entry))) (λ x. true) (standing .count) ⌝ }
 {
     fill_items(scratch, standing, scores);

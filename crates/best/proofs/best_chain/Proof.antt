@@ -1,16 +1,19 @@
 -- `best::best_chain` meets its contract: the seeds as they stand, and the table on the scratch.
-use mathlib.Core.Path.{_∙_}
-use native.Mathlib.Omega.{arith}
+use mathlib.Core.Path.{_∙_, sym}
+use borrow.Author.Tests.{ltb-false}
 use Rattle.best.proofs.Answers.{best-refused, best-accepted, table-posed, table-key}
 use borrow.Author.Needs.{needs}
 use Rattle.best.proofs.best_chain.Statement.{statement}
 use Rattle.best.proofs.best_chain.Tie as tie
 
+scratch-short-requires : tie.Need-scratch-short-requires
+scratch-short-requires c κs = search needs
+
 too-short-requires : tie.Need-too-short-requires
 too-short-requires c κs = search needs
 
 returns : tie.Need-returns
-returns c = rw (c .too-short .ensures) (best-refused _ _ _ _ (c .before .if1 .taken))
+returns c = rw (c .too-short .ensures) (best-refused _ _ _ _ (sym (c .before .before .scratch-short .ensures) ∙ c .before .if1 .taken))
 
 stood-requires : tie.Need-stood-requires
 stood-requires c κs = search needs
@@ -19,7 +22,7 @@ solve-requires : tie.Need-solve-requires
 solve-requires c κs =
     let stood = c .before .before .before in
     let long = stood .before in
-    (table-posed _ _ _ (long .before .before .pre) _ (stood .stood .ensures), omega (arith, long .if1 .left))
+    (table-posed _ _ _ (long .before .before .before .pre) _ (stood .stood .ensures), ltb-false _ _ (sym (long .before .scratch-short .ensures) ∙ long .if1 .left))
 
 clear-requires : tie.Need-clear-requires
 clear-requires c κs = search needs
@@ -36,12 +39,13 @@ returns-2 c =
     let solve = clear .before .before .before .before in
     let stood = solve .before .before .before .before in
     let long = stood .before in
-    best-accepted _ _ _ _ (solve .solve .last .0) _ _ _ _ (long .if1 .left) (solve .solve .ensures ∙ table-key _ _ _ (long .before .before .pre) _ (stood .stood .ensures)) (c .unpacked .ensures) (solve .solve .kept .0) (clear .clear .ensures)
+    best-accepted _ _ _ _ (solve .solve .last .0) _ _ _ _ (sym (long .before .scratch-short .ensures) ∙ long .if1 .left) (solve .solve .ensures ∙ table-key _ _ _ (long .before .before .before .pre) _ (stood .stood .ensures)) (c .unpacked .ensures) (solve .solve .kept .0) (clear .clear .ensures)
 
 pub best-chain-spec : {M : Type 1} → statement M
 best-chain-spec =
     tie.close
     (tie.spec
+    scratch-short-requires
     too-short-requires
     returns
     stood-requires

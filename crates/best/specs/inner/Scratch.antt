@@ -9,6 +9,7 @@ use lib.IntN.{ℤ, pos}
 use lib.ListN.{length, getD}
 use Rattle.optimum.specs.Key.{Key, empty, _⊕_, better, seedKey, inMask}
 use Rattle.optimum.specs.inner.Table.{Items, Laws, Limited, maxBelow, KeysUnder, KeyRow, stored, Small}
+use Rattle.best.specs.Best.{scratchNeeded}
 use Rattle.standing.specs.Standing.{numberAt}
 use Rattle.standing.specs.declared.Standing.{Standing}
 
@@ -43,7 +44,7 @@ itemsOf s scores = record { left = marked (s .lefts); under = marked (s .unders)
 
 -- Of the items in a mask none is better in the row at hand than one that it is left of.
 pub record RowRises (xs lefts : List ℕ) (mask : ℕ) : Type 0 where
-  pub long : 256 ≤ length xs
+  pub long : scratchNeeded ≤ length xs
   pub reach : (k : ℕ) → T (inMask mask k) → k < length lefts
   pub rises : (j k : ℕ) → T (inMask mask j) → T (inMask mask k) → T (marked lefts j k) → better (keyAt xs rowBank j) (keyAt xs rowBank k) ≡ keyAt xs rowBank k
 
@@ -64,7 +65,7 @@ pub record EntryRoom (xs lefts : List ℕ) (row k : ℕ) : Type 0 where
 pub record RowRoom (xs lefts : List ℕ) (row n : ℕ) : Type 0 where
   pub few : n ≤ 64
   pub lefts-long : n ≤ length lefts
-  pub long : 256 ≤ length xs
+  pub long : scratchNeeded ≤ length xs
   pub before : (j k : ℕ) → k < n → T (marked lefts j k) → j < k
   pub clipped : (k : ℕ) → k < n → better empty (keyAt xs itemBank k) ≡ keyAt xs itemBank k
   pub small : (d : ℕ → Key) (k : ℕ) → k < n → T (inMask row k) → KeyRow (marked lefts) (inMask row) (keyAt xs itemBank) d k → (t m : ℕ) → keyAt xs itemBank k ⊕ maxBelow (λ j. inMask row j && marked lefts j k) d k ≡ stored t m → Small t m
