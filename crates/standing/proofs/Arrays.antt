@@ -1,5 +1,5 @@
 -- From the arrays of a table to its rows: the seeds in order, and how they stand to one another.
-use mathlib.Core.Path.{_≡_, sym, ap, ap₂, _∙_}
+use mathlib.Core.Path.{_≡_, sym, ap, ap₂, subst, _∙_}
 use mathlib.Core.Bool.{false}
 use mathlib.Core.List.{List}
 use Prim.Native.Nat.{ℕ, _+_, _*_, _≤_, _<_}
@@ -19,6 +19,7 @@ use Rattle.table.proofs.Tables.{rows-length, row-there, q-length, t-length}
 use Rattle.standing.specs.Standing.{rankIn, numberAt, seedAt, Stood}
 use Rattle.standing.specs.inner.Order.{lastOf, rankBy, Ordered}
 use Rattle.standing.specs.inner.Stands.{masksOf, pairsBy, seedBy, Lawful, Related}
+use Rattle.standing.specs.declared.Standing.{Standing}
 use Rattle.standing.specs.declared.order.Order.{Order}
 use Rattle.standing.specs.declared.stands.Masks.{Masks}
 use Rattle.masks.proofs.Bits.{mask-same}
@@ -61,9 +62,12 @@ module _ (q t : Tree) (table : Table) (h : Kept q t table) where
         let l = test-laws (tree-nested q (h .is-q)) (tree-nested t (h .is-t)) (o .count) (seedBy (table .qs) (table .ts) (table .bounds) (o .numbers)) seeds in
         record { left-left = l .left-left; under-left = l .under-left; under-under = l .under-under; never-both = l .never-both }
 
-    pub stood-is : (lefts unders : List ℕ) → Related (leavesOf q) (leavesOf t) (seedBy (table .qs) (table .ts) (table .bounds) (o .numbers)) (o .count) lefts unders → Stood (leavesOf q) (leavesOf t) (rowsOf table) (record { count = o .count; numbers = o .numbers; lefts = lefts; unders = unders })
+    abbrev with-masks : List ℕ → List ℕ → Standing
+    with-masks lefts unders = record { count = o .count; numbers = o .numbers; lefts = lefts; unders = unders }
+
+    stood-masks : (lefts unders : List ℕ) → Related (leavesOf q) (leavesOf t) (seedBy (table .qs) (table .ts) (table .bounds) (o .numbers)) (o .count) lefts unders → Stood (leavesOf q) (leavesOf t) (rowsOf table) (with-masks lefts unders)
     unfolding masksOf
-    stood-is lefts unders r =
+    stood-masks lefts unders r =
         let long = rows-length table in
         record {
           few = omega (arith, w .few);
@@ -82,3 +86,9 @@ module _ (q t : Tree) (table : Table) (h : Kept q t table) where
               ap (λ (m : Masks). m .under) (r .are y b)
               ∙ mask-same _ _ y (λ x a. ap₂ (under (leavesOf q) (leavesOf t)) (seed-row x (omega arith)) (seed-row y b));
         }
+
+    pub stood-is : (s : Standing) → Related (leavesOf q) (leavesOf t) (seedBy (table .qs) (table .ts) (table .bounds) (o .numbers)) (o .count) (s .lefts) (s .unders) → s .count ≡ o .count → s .numbers ≡ o .numbers → Stood (leavesOf q) (leavesOf t) (rowsOf table) s
+    stood-is s r e f =
+        subst (Stood (leavesOf q) (leavesOf t) (rowsOf table))
+        (ap₂ (λ (n : ℕ) (numbers : List ℕ). record { count = n; numbers = numbers; lefts = s .lefts; unders = s .unders }) (sym e) (sym f))
+        (stood-masks (s .lefts) (s .unders) r)

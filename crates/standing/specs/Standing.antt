@@ -1,14 +1,18 @@
 -- The present seeds of a table in order, and how they stand to one another (document 01, "Pairs, seeds, chains"). Seeds are numbered from 0
 -- here.
 use mathlib.Core.Path.{_≡_}
-use mathlib.Core.Bool.{true}
+use mathlib.Core.Bool.{Bool, true}
 use mathlib.Core.List.{List}
 use Prim.Native.Nat.{ℕ, _+_, _*_, _≤_, _<_}
 use lib.ListN.{length, getD}
+use lib.IntN.{ℤ}
+use Rattle.tree.specs.Reading.{leavesOf}
+use Rattle.tree.specs.declared.Tree.{Tree}
 use Rattle.seed.specs.AreaList as seed
 use Rattle.seed.specs.Seed.{lastPair}
 use Rattle.seed.specs.declared.Pair.{Pair}
 use Rattle.table.specs.Rows.{Row, rowIn}
+use Rattle.table.specs.Table.{rowsOf, tableOf, Kept}
 use Rattle.optimum.specs.Key.{maskOf}
 use Rattle.standing.specs.declared.Standing.{Standing}
 
@@ -42,3 +46,13 @@ pub record Stood (Q T : List ℕ) (rows : List Row) (s : Standing) : Type 0 wher
   pub listed : (i : ℕ) → i < length rows → rowIn rows i .present ≡ true → PlaceInList (s .numbers) (s .count) i
   pub left : (y : ℕ) → y < s .count → getD (s .lefts) y 0 ≡ maskOf (λ x. seed.left Q T (seedAt rows (s .numbers) x) (seedAt rows (s .numbers) y)) y
   pub under : (y : ℕ) → y < s .count → getD (s .unders) y 0 ≡ maskOf (λ x. seed.under Q T (seedAt rows (s .numbers) x) (seedAt rows (s .numbers) y)) y
+
+-- The arrays of a table that calls hand over, whatever its scores are.
+pub record KeptIn (q t : Tree) (qs ts bounds : List ℕ) (present : List Bool) (seeds : ℕ) : Type 0 where
+  pub scores : List ℤ
+  pub kept : Kept q t (tableOf qs ts bounds scores present seeds)
+
+-- So the present seeds of the table in these arrays stand, whatever its scores are.
+abbrev pub StoodIn : Tree → Tree → List ℕ → List ℕ → List ℕ → List Bool → ℕ → Standing → Type 0
+StoodIn q t qs ts bounds present seeds s =
+    (scores : List ℤ) → Kept q t (tableOf qs ts bounds scores present seeds) → Stood (leavesOf q) (leavesOf t) (rowsOf (tableOf qs ts bounds scores present seeds)) s

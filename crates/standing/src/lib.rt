@@ -4,11 +4,11 @@ mod stands;
 
 use order::ordered;
 use stands::relate;
-use table::Table;
 use tree::Tree;
-ghost use Rattle.tree.specs.Reading.{leavesOf};
-ghost use Rattle.table.specs.Table.{rowsOf, Kept};
-ghost use Rattle.standing.specs.Standing.{Stood};
+ghost use mathlib.Core.Path.{_≡_};
+ghost use Prim.Native.Nat.{_≤_};
+ghost use lib.ListN.{length, take};
+ghost use Rattle.standing.specs.Standing.{KeptIn, StoodIn};
 
 // The numbers of the present seeds, counted from 0, by rising q of the last pair and then by number, as many as count says; and for each the
 // masks of those before it that stand left of it and under it.
@@ -19,29 +19,29 @@ pub struct Standing {
     pub unders: [u64; 64],
 }
 
-// How the present seeds of a table stand to one another.
-pub fn stood(q: Tree, t: Tree, table: Table) -> Standing
-    requires { ⌜ Kept q t table ⌝ }
-    ensures { λ r. ⌜ Stood (leavesOf q) (leavesOf t) (rowsOf table) r ⌝ }
+// The leftmost leaves of a tree's nodes, as the part of the array that has them.
+fn leaves_in(left: &[u8], n: usize) -> &[u8]
+    requires { ⌜ n ≤ length (now left) ⌝ }
+    ensures { λ r. ⌜ now r ≡ take n (now (left .entry)) ⌝ }
 {
-    let order = ordered(&table.qs, &table.bounds, &table.present, table.seeds);
-    let lq = q.left;
-    let lt = t.left;
-    let relation = relate(
-        &lq[..q.n],
-        &lt[..t.n],
-        &table.qs,
-        &table.ts,
-        &table.bounds,
-        order,
-    );
-    let numbers = order.numbers;
-    let lefts = relation.lefts;
-    let unders = relation.unders;
-    Standing {
-        count: order.count,
-        numbers,
-        lefts,
-        unders,
-    }
+    &left[..n]
+}
+
+// How the present seeds of a table, which lies in these arrays, stand to one another.
+pub fn stood<'a>(
+    q: Tree,
+    t: Tree,
+    qs: &'a [u8],
+    ts: &'a [u8],
+    bounds: &'a [u16],
+    present: &'a [bool; 64],
+    seeds: usize,
+) -> Standing
+    requires { ⌜ KeptIn q t (now qs) (now ts) (now bounds) (now present) seeds ⌝ }
+    ensures { λ r. ⌜ StoodIn q t (now (qs .entry)) (now (ts .entry)) (now (bounds .entry)) (now (present .entry)) seeds r ⌝ }
+{
+    let order = ordered(qs, bounds, present, seeds);
+    let lq = leaves_in(&q.left, q.n);
+    let lt = leaves_in(&t.left, t.n);
+    relate(lq, lt, qs, ts, bounds, order)
 }

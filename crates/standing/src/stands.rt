@@ -1,4 +1,5 @@
 // How the seeds of a list stand to one another, by masks.
+use super::Standing;
 use super::order::Order;
 use masks::highest;
 use masks::without;
@@ -25,12 +26,6 @@ pub struct Stand {
 pub struct Masks {
     pub left: u64,
     pub under: u64,
-}
-
-// The masks of each seed of a list.
-pub struct Relation {
-    pub lefts: [u64; 64],
-    pub unders: [u64; 64],
 }
 
 // How a seed whose last pair is s stands to the seed of uq and ut, whose last pair is u.
@@ -119,7 +114,7 @@ fn masks_at(
     masks
 }
 
-// The masks of every seed of a list.
+// The seeds of a list with the masks of each.
 pub fn relate<'a>(
     lq: &[u8],
     lt: &[u8],
@@ -127,9 +122,9 @@ pub fn relate<'a>(
     ts: &'a [u8],
     bounds: &'a [u16],
     order: Order,
-) -> Relation
+) -> Standing
     requires { ⌜ order .count ≤ 64 ⌝ ∗ ⌜ Lawful (now lq) (now lt) (seedBy (now qs) (now ts) (now bounds) (order .numbers)) (order .count) ⌝ }
-    ensures { λ r. ⌜ Related (now (lq .entry)) (now (lt .entry)) (seedBy (now (qs .entry)) (now (ts .entry)) (now (bounds .entry)) (order .numbers)) (order .count) (r .lefts) (r .unders) ⌝ }
+    ensures { λ r. ⌜ Related (now (lq .entry)) (now (lt .entry)) (seedBy (now (qs .entry)) (now (ts .entry)) (now (bounds .entry)) (order .numbers)) (order .count) (r .lefts) (r .unders) × (r .count ≡ order .count) × (r .numbers ≡ order .numbers) ⌝ }
 {
     let mut rq = [0u8; 64];
     let mut rt = [0u8; 64];
@@ -148,5 +143,11 @@ pub fn relate<'a>(
         unders[y] = m.under;
         y += 1;
     }
-    Relation { lefts, unders }
+    let numbers = order.numbers;
+    Standing {
+        count: order.count,
+        numbers,
+        lefts,
+        unders,
+    }
 }

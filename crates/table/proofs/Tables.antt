@@ -17,7 +17,7 @@ use Rattle.seed.specs.declared.Pair.{Pair}
 use Rattle.seed.proofs.PairLists.{count-first}
 use Rattle.seed.proofs.Tabs.{length-tab, getD-tab, tab-set, tab-more}
 use Rattle.table.specs.Rows.{Row, noRow, withScore, withPresence, pairsInAll, summaryOf}
-use Rattle.table.specs.Table.{nodesOf, pairsAt, rowAt, rowsOf, noSeeds, Laid, HasRows}
+use Rattle.table.specs.Table.{nodesOf, pairsAt, rowAt, rowsOf, tableOf, noSeeds, Laid, HasRows}
 use Rattle.table.specs.declared.Table.{Table}
 use Rattle.table.proofs.Nodes.{between-length}
 
@@ -31,6 +31,10 @@ row-there t i h = getD-tab (t .seeds) (rowAt t) i noRow h
 
 pub row-past : (t : Table) (i : ℕ) → t .seeds ≤ i → getD (rowsOf t) i noRow ≡ noRow
 row-past t i h = List·getD-eq-default (rowsOf t) noRow (omega (arith, rows-length t))
+
+-- A table is the one that lies in its own arrays.
+pub table-in : (t : Table) → Laid t → tableOf (t .qs) (t .ts) (t .bounds) (t .scores) (t .present) (t .seeds) ≡ t
+table-in t h = ap (λ (n : ℕ). record { seeds = t .seeds; pairs = n; qs = t .qs; ts = t .ts; bounds = t .bounds; scores = t .scores; present = t .present }) (h .last)
 
 -- Another row at one place.
 rows-set : (t r : Table) (k : ℕ) → r .seeds ≡ t .seeds → k < t .seeds → ((i : ℕ) → i < t .seeds → i ≢ k → rowAt r i ≡ rowAt t i) → rowsOf r ≡ set (rowsOf t) k (rowAt r k)

@@ -1,10 +1,10 @@
 -- The rows that a table's arrays hold, and the tables that calls hand over.
 use mathlib.Core.Path.{_≡_}
-use mathlib.Core.Bool.{true, false}
+use mathlib.Core.Bool.{Bool, true, false}
 use mathlib.Core.List.{List}
 use Prim.Native.Nat.{ℕ, _+_, _-_, _≤_, _<_}
 use lib.ListN.{length, getD, take, drop, replicate}
-use lib.IntN.{pos}
+use lib.IntN.{ℤ, pos}
 use Rattle.tree.specs.Reading.{IsTree, leavesOf}
 use Rattle.tree.specs.declared.Tree.{Tree}
 use Rattle.seed.specs.Tab.{tab}
@@ -52,6 +52,10 @@ pub record Kept (q t : Tree) (table : Table) : Type 0 where
   pub is-t : IsTree t
   pub laid : Laid table
   pub each : AllHold (leavesOf q) (leavesOf t) (rowsOf table)
+
+-- The table that lies in these arrays: where its last seed ends, there its pairs do.
+abbrev pub tableOf : List ℕ → List ℕ → List ℕ → List ℤ → List Bool → ℕ → Table
+tableOf qs ts bounds scores present seeds = record { seeds = seeds; pairs = getD bounds seeds 0; qs = qs; ts = ts; bounds = bounds; scores = scores; present = present }
 
 -- The table without seeds.
 abbrev pub noSeeds : Table

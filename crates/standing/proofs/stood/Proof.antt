@@ -1,46 +1,37 @@
 -- `standing::stood` meets its contract: the seeds in order, and how they stand.
-use mathlib.Core.Path.{sym}
-use Rattle.tree.proofs.Trees.{tree-length}
 use Rattle.standing.proofs.Arrays.{tree-fits, count-few, lawful, stood-is}
 use borrow.Author.Needs.{needs}
 use Rattle.standing.proofs.stood.Statement.{statement}
 use Rattle.standing.proofs.stood.Tie as tie
 
 ordered-requires : tie.Need-ordered-requires
-ordered-requires c κs = search needs
+ordered-requires c κs = c .before .before .before .pre .kept .laid .few
 
-array-share-prefix-lq : tie.Need-array-share-prefix-lq
-array-share-prefix-lq c = tree-fits _ (c .before .before .before .before .before .before .before .before .before .pre .is-q)
+leaves-in-requires : tie.Need-leaves-in-requires
+leaves-in-requires c κs = tree-fits _ (c .before .before .before .before .before .before .before .pre .kept .is-q)
 
-slice-aggregate-relate : tie.Need-slice-aggregate-relate
-slice-aggregate-relate c = sym (tree-length _ (c .before .before .before .before .before .before .before .before .before .before .pre .is-q))
-
-array-share-prefix-lt : tie.Need-array-share-prefix-lt
-array-share-prefix-lt c = tree-fits _ (c .before .before .before .before .before .before .before .before .before .before .pre .is-t)
-
-slice-aggregate-relate-2 : tie.Need-slice-aggregate-relate-2
-slice-aggregate-relate-2 c = sym (tree-length _ (c .before .before .before .before .before .before .before .before .before .before .before .pre .is-t))
+leaves-in-requires-2 : tie.Need-leaves-in-requires-2
+leaves-in-requires-2 c κs = tree-fits _ (c .before .before .before .before .before .before .before .before .before .before .before .pre .kept .is-t)
 
 relate-requires : tie.Need-relate-requires
 relate-requires c κs =
-    let ordered = c .before .before .before .before .before .before .before .before .before .before .before in
-    let pre = ordered .before .before .before .before .before .before .before .pre in
-    (count-few _ _ _ pre _ (ordered .ordered .ensures), lawful _ _ _ pre _ (ordered .ordered .ensures))
+    let first = c .before .before .before .before in
+    let ordered = first .before .before .before .before in
+    let kept = ordered .before .before .before .before .pre .kept in
+    (count-few _ _ _ kept _ (ordered .ordered .ensures), rw (c .leaves-in2 .ensures, first .leaves-in .ensures) (lawful _ _ _ kept _ (ordered .ordered .ensures)))
 
 returns : tie.Need-returns
 returns c =
-    let relate = c .before .before .before in
-    let ordered = relate .before .before .before .before .before .before .before .before .before .before .before .before in
-    stood-is _ _ _ (ordered .before .before .before .before .before .before .before .pre) _ (ordered .ordered .ensures) _ _ (relate .relate .ensures)
+    let second = c .before in
+    let first = second .before .before .before .before in
+    let ordered = first .before .before .before .before in
+    λ scores kept.
+        stood-is _ _ _ kept _ (ordered .ordered .ensures) _
+        (rw (second .leaves-in2 .ensures, first .leaves-in .ensures) at (c .relate .ensures .0))
+        (c .relate .ensures .1)
+        (c .relate .ensures .2)
 
 pub stood-spec : {M : Type 1} → statement M
 stood-spec =
     tie.close
-    (tie.spec
-    ordered-requires
-    array-share-prefix-lq
-    slice-aggregate-relate
-    array-share-prefix-lt
-    slice-aggregate-relate-2
-    relate-requires
-    returns)
+    (tie.spec ordered-requires leaves-in-requires leaves-in-requires-2 relate-requires returns)

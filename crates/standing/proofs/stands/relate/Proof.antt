@@ -1,6 +1,6 @@
 -- `standing::stands::relate` meets its contract.
 use Prim.Native.Nat.{_≤_, _-_}
-use mathlib.Core.Path.{_≡_, ap, _∙_}
+use mathlib.Core.Path.{_≡_, refl, ap, _∙_}
 use native.Mathlib.Omega.{arith}
 use borrow.Author.Needs.{needs}
 use Rattle.seed.specs.Seed.{lastPair}
@@ -82,9 +82,9 @@ loop-again c =
 
 returns : tie.Need-returns Inv-loop μ-loop
 returns c =
-    let turn = c .before in
+    let turn = c .before .before in
     let e : turn .loop .y ≡ turn .before .before .before .before .before .before .args .t6 .count = omega arith in
-    rw e at (turn .loop .inv .2)
+    (rw e at (turn .loop .inv .2), refl, refl)
 
 pub relate-spec : {M : Type 1} → statement M
 relate-spec =
