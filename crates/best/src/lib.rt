@@ -9,11 +9,10 @@ use answer::refused;
 use keys::unpacked;
 use scratch::solve;
 use standing::stood;
-use table::Table;
 use tree::Tree;
 ghost use mathlib.Core.Path.{_≡_};
 ghost use lib.ListN.{length, replicate};
-ghost use Rattle.table.specs.Table.{Kept};
+ghost use Rattle.table.specs.Table.{tableOf, Kept};
 ghost use lib.Dec.{ltb};
 ghost use Rattle.best.specs.Best.{scratchNeeded, tooShort, Answered};
 
@@ -56,16 +55,33 @@ pub fn clear(scratch: &mut [u64])
     }
 }
 
-// The best chain of the present ones of a table's seeds.
-pub fn best_chain(q: Tree, t: Tree, table: Table, scratch: &mut [u64]) -> Best
-    requires { ⌜ Kept q t table ⌝ }
-    ensures { λ r. ⌜ Answered q t table (now (scratch .entry)) (now (scratch .exit)) r ⌝ }
+// The best chain of the present ones of the seeds of a table, which lies in these arrays.
+pub fn best_chain<'a>(
+    q: Tree,
+    t: Tree,
+    qs: &'a [u8],
+    ts: &'a [u8],
+    bounds: &'a [u16],
+    scores: &'a [i32; 64],
+    present: &'a [bool; 64],
+    seeds: usize,
+    scratch: &mut [u64],
+) -> Best
+    requires { ⌜ Kept q t (tableOf (now qs) (now ts) (now bounds) (now scores) (now present) seeds) ⌝ }
+    ensures { λ r. ⌜ Answered q t (tableOf (now (qs .entry)) (now (ts .entry)) (now (bounds .entry)) (now (scores .entry)) (now (present .entry)) seeds) (now (scratch .entry)) (now (scratch .exit)) r ⌝ }
 {
     if scratch_short(scratch.len()) {
         return too_short();
     }
-    let standing = stood(q, t, table);
-    let key = solve(scratch, standing, &table.scores);
+    let standing = stood(q, t, qs, ts, bounds, present, seeds);
+    let key = solve(
+        scratch,
+        &standing.numbers,
+        &standing.lefts,
+        &standing.unders,
+        standing.count,
+        scores,
+    );
     clear(scratch);
     Best {
         answer: Answer::Accepted,

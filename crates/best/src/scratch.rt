@@ -10,7 +10,6 @@ use super::keys::put;
 use super::keys::without_lowest;
 use masks::highest;
 use masks::without;
-use standing::Standing;
 ghost use mathlib.Core.Path.{_≡_};
 ghost use mathlib.Core.Bool.{true};
 ghost use Prim.Native.Nat.{_≤_};
@@ -77,15 +76,21 @@ fn fill_row(scratch: &mut [u64], lefts: &[u64], row: u64, n: usize) -> Stored
 }
 
 // Fills in the key of each item with the best chain under it.
-fn fill_items(scratch: &mut [u64], standing: Standing, scores: &[i32; 64])
-    requires { ⌜ spec.Posed standing (now scores) ⌝ ∗ ⌜ scratchNeeded ≤ length (now scratch) ⌝ }
-    ensures { λ r. ⌜ spec.ItemsFilled (spec.itemsOf standing (now (scores .entry))) (now (scratch .entry)) (standing .count) (now (scratch .exit)) ⌝ }
+fn fill_items<'a>(
+    scratch: &mut [u64],
+    numbers: &'a [u8; 64],
+    lefts: &'a [u64; 64],
+    unders: &'a [u64; 64],
+    count: usize,
+    scores: &[i32; 64],
+)
+    requires { ⌜ spec.Posed (spec.standingOf count (now numbers) (now lefts) (now unders)) (now scores) ⌝ ∗ ⌜ scratchNeeded ≤ length (now scratch) ⌝ }
+    ensures { λ r. ⌜ spec.ItemsFilled (spec.itemsOf (spec.standingOf count (now (numbers .entry)) (now (lefts .entry)) (now (unders .entry))) (now (scores .entry))) (now (scratch .entry)) count (now (scratch .exit)) ⌝ }
 {
-    let lefts = standing.lefts;
     let mut y = 0;
-    while y < standing.count {
-        let under = fill_row(scratch, &lefts, standing.unders[y], y);
-        let number = standing.numbers[y] as usize;
+    while y < count {
+        let under = fill_row(scratch, lefts, unders[y], y);
+        let number = numbers[y] as usize;
         let key = clipped(scores[number], bit(number), under);
         put(scratch, ITEMS, y, key);
         y += 1;
@@ -93,10 +98,17 @@ fn fill_items(scratch: &mut [u64], standing: Standing, scores: &[i32; 64])
 }
 
 // The best key of a chain of the items.
-pub fn solve(scratch: &mut [u64], standing: Standing, scores: &[i32; 64]) -> Stored
-    requires { ⌜ spec.Posed standing (now scores) ⌝ ∗ ⌜ scratchNeeded ≤ length (now scratch) ⌝ }
-    ensures { λ r. ⌜ stored (r .total) (r .mask) ≡ bestAmong (spec.itemsOf standing (now (scores .entry))) (λ x. true) (standing .count) ⌝ }
+pub fn solve<'a>(
+    scratch: &mut [u64],
+    numbers: &'a [u8; 64],
+    lefts: &'a [u64; 64],
+    unders: &'a [u64; 64],
+    count: usize,
+    scores: &[i32; 64],
+) -> Stored
+    requires { ⌜ spec.Posed (spec.standingOf count (now numbers) (now lefts) (now unders)) (now scores) ⌝ ∗ ⌜ scratchNeeded ≤ length (now scratch) ⌝ }
+    ensures { λ r. ⌜ stored (r .total) (r .mask) ≡ bestAmong (spec.itemsOf (spec.standingOf count (now (numbers .entry)) (now (lefts .entry)) (now (unders .entry))) (now (scores .entry))) (λ x. true) count ⌝ }
 {
-    fill_items(scratch, standing, scores);
-    fill_row(scratch, &standing.lefts, ALL, standing.count)
+    fill_items(scratch, numbers, lefts, unders, count, scores);
+    fill_row(scratch, lefts, ALL, count)
 }

@@ -16,13 +16,14 @@ returns : tie.Need-returns
 returns c = rw (c .too-short .ensures) (best-refused _ _ _ _ (sym (c .before .before .scratch-short .ensures) ∙ c .before .if1 .taken))
 
 stood-requires : tie.Need-stood-requires
-stood-requires c κs = search needs
+stood-requires c κs = record { scores = _; kept = c .before .before .before .before .before .before .pre }
 
 solve-requires : tie.Need-solve-requires
 solve-requires c κs =
-    let stood = c .before .before .before in
+    let stood = c .before .before .before .before .before in
     let long = stood .before in
-    (table-posed _ _ _ (long .before .before .before .pre) _ (stood .stood .ensures), ltb-false _ _ (sym (long .before .scratch-short .ensures) ∙ long .if1 .left))
+    let kept = long .before .before .before .before .before .before .pre in
+    (table-posed _ _ _ kept _ (stood .stood .ensures _ kept), ltb-false _ _ (sym (long .before .scratch-short .ensures) ∙ long .if1 .left))
 
 clear-requires : tie.Need-clear-requires
 clear-requires c κs = search needs
@@ -37,9 +38,10 @@ returns-2 : tie.Need-returns-2
 returns-2 c =
     let clear = c .before .before .before in
     let solve = clear .before .before .before .before in
-    let stood = solve .before .before .before .before in
+    let stood = solve .before .before .before .before .before .before in
     let long = stood .before in
-    best-accepted _ _ _ _ (solve .solve .last .0) _ _ _ _ (sym (long .before .scratch-short .ensures) ∙ long .if1 .left) (solve .solve .ensures ∙ table-key _ _ _ (long .before .before .before .pre) _ (stood .stood .ensures)) (c .unpacked .ensures) (solve .solve .kept .0) (clear .clear .ensures)
+    let kept = long .before .before .before .before .before .before .pre in
+    best-accepted _ _ _ _ (solve .solve .last .0) _ _ _ _ (sym (long .before .scratch-short .ensures) ∙ long .if1 .left) (solve .solve .ensures ∙ table-key _ _ _ kept _ (stood .stood .ensures _ kept)) (c .unpacked .ensures) (solve .solve .kept .0) (clear .clear .ensures)
 
 pub best-chain-spec : {M : Type 1} → statement M
 best-chain-spec =

@@ -38,6 +38,10 @@ marked masks x y = inMask (getD masks y 0) x
 abbrev pub scoreBy : List ℤ → ℕ → ℤ
 scoreBy scores i = getD scores i (pos 0)
 
+-- The seeds of a list as they stand, from the arrays that hold them.
+abbrev pub standingOf : ℕ → List ℕ → List ℕ → List ℕ → Standing
+standingOf count numbers lefts unders = record { count = count; numbers = numbers; lefts = lefts; unders = unders }
+
 -- The items of a list of seeds, by the masks of each.
 abbrev pub itemsOf : Standing → List ℤ → Items
 itemsOf s scores = record { left = marked (s .lefts); under = marked (s .unders); worth = λ k. seedKey (scoreBy scores) (numberAt (s .numbers) k) }

@@ -26,10 +26,10 @@ returns c =
     let first = second .before .before .before .before in
     let ordered = first .before .before .before .before in
     λ scores kept.
-        stood-is _ _ _ kept _ (ordered .ordered .ensures) _
-        (rw (second .leaves-in2 .ensures, first .leaves-in .ensures) at (c .relate .ensures .0))
-        (c .relate .ensures .1)
-        (c .relate .ensures .2)
+    stood-is _ _ _ kept _ (ordered .ordered .ensures) _
+    (rw (second .leaves-in2 .ensures, first .leaves-in .ensures) at (c .relate .ensures .0))
+    (c .relate .ensures .1)
+    (c .relate .ensures .2)
 
 pub stood-spec : {M : Type 1} → statement M
 stood-spec =

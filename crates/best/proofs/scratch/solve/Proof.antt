@@ -9,7 +9,7 @@ fill-items-requires c κs = search needs
 
 fill-row-requires : tie.Need-fill-row-requires
 fill-row-requires c κs =
-    let items = c .before .before .before .before .before .before in
+    let items = c .before .before .before .before in
     let start = items .before .before .before in
     all-room _ _ (start .pre .0) _ (start .pre .1) _ (items .fill-items .ensures)
 
@@ -18,7 +18,7 @@ same-length c = search needs
 
 returns : tie.Need-returns
 returns c =
-    let items = c .before .before .before .before .before .before .before .before .before in
+    let items = c .before .before .before .before .before .before .before in
     let start = items .before .before .before in
     all-best _ _ (start .pre .0) _ (start .pre .1) _ (items .fill-items .ensures) _ (c .before .before .fill-row .ensures)
 
