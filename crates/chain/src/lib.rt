@@ -158,7 +158,17 @@ impl Session {
         requires { ⌜ Sound self ⌝ }
         ensures { λ r. ⌜ Chains (view self) (now (scratch .entry)) (now (scratch .exit)) r ⌝ }
     {
-        best::best_chain(self.q, self.t, self.table, scratch)
+        best::best_chain(
+            self.q,
+            self.t,
+            &self.table.qs,
+            &self.table.ts,
+            &self.table.bounds,
+            &self.table.scores,
+            &self.table.present,
+            self.table.seeds,
+            scratch,
+        )
     }
 
     // The open areas of a seed, present or not, written as four bytes each.

@@ -14,6 +14,7 @@ use Rattle.seed.specs.Seed.{qs, ts}
 use Rattle.seed.specs.Tests.{paired}
 use Rattle.seed.specs.AreaList.{bytesOf}
 use Rattle.seed.specs.declared.Pair.{Pair}
+use Rattle.best.specs.Best.{scratchNeeded}
 use Rattle.best.specs.declared.Best.{Best}
 use Rattle.chain.specs.State.{State}
 use Rattle.chain.specs.Acts.{Act, add, rescore, withdraw, bestChain, grounds, step, areasOf}
@@ -56,7 +57,7 @@ numbersFrom n (true ∷ bs) = n ∷ numbersFrom (suc n) bs
 numbersFrom n (false ∷ bs) = numbersFrom (suc n) bs
 
 abbrev pub answered : State → Best
-answered s = bestBy (grounds s (bestChain 4096)) (keyIn s)
+answered s = bestBy (grounds s (bestChain scratchNeeded)) (keyIn s)
 
 abbrev pub totalAndChain : State → List ℕ
 totalAndChain s = answered s .total ∷ numbersFrom 1 (answered s .chain)
