@@ -1,9 +1,11 @@
 //! The proved library, reached through its one C function.
 
-/// Document 01's scratch for the best chain.
-const SCRATCH: usize = 4096;
-/// More than the longest two lines, so that writing too far is seen.
-const OUT: usize = 512;
+/// The scratch that the best chain needs (document 02, j).
+const SCRATCH: usize = 256;
+/// The bytes of output that hold every report.
+const ROOM: usize = 256;
+/// More than that, so that writing too far is seen.
+const OUT: usize = 2 * ROOM;
 /// What the lent memory holds before a call.
 const DIRT: u8 = 0xA5;
 const SCRATCH_DIRT: u64 = 0xA5A5_A5A5_A5A5_A5A5;
@@ -83,5 +85,22 @@ impl Library {
             return Err("the scratch was not left zero");
         }
         Ok(&self.out[..length])
+    }
+
+    /// Whether too little scratch or output writes nothing and leaves both as they were.
+    pub fn turns_down_short_memory(&mut self, input: &[u8]) -> bool {
+        let sizes = [
+            (SCRATCH - 1, OUT),
+            (SCRATCH, ROOM - 1),
+            (0, OUT),
+            (SCRATCH, 0),
+        ];
+        sizes.iter().all(|&(numbers, bytes)| {
+            self.scratch.fill(SCRATCH_DIRT);
+            self.out.fill(DIRT);
+            linked::report(input, &mut self.scratch[..numbers], &mut self.out[..bytes]) == 0
+                && self.scratch.iter().all(|&word| word == SCRATCH_DIRT)
+                && self.out.iter().all(|&byte| byte == DIRT)
+        })
     }
 }

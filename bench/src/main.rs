@@ -51,6 +51,12 @@ impl Checker {
                 Ok(found) => differ("the library", input, &lines, found),
                 Err(fault) => fail(&format!("the library: {fault}"), input),
             }
+            if !library.turns_down_short_memory(input) {
+                fail(
+                    "the library: short memory was not turned down, or not left as it was",
+                    input,
+                );
+            }
         }
         self.try_all(input);
         *self.outcomes.entry(outcome(&lines)).or_insert(0) += 1;

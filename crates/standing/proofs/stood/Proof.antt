@@ -1,6 +1,5 @@
 -- `standing::stood` meets its contract: the seeds in order, and how they stand.
 use Rattle.standing.proofs.Arrays.{tree-fits, count-few, lawful, stood-is}
-use borrow.Author.Needs.{needs}
 use Rattle.standing.proofs.stood.Statement.{statement}
 use Rattle.standing.proofs.stood.Tie as tie
 

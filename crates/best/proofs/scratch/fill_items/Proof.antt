@@ -2,7 +2,7 @@
 use Prim.Native.Nat.{_≤_, _-_}
 use mathlib.Core.Path.{_≡_}
 use native.Mathlib.Omega.{arith}
-use borrow.Author.Needs.{needs, sfits-of}
+use borrow.Author.Needs.{sfits-of}
 use mir.Facts.{toZ-ofZ}
 use Rattle.best.specs.inner.Scratch.{standingOf, itemsOf, ItemsFilled}
 use Rattle.best.proofs.Rows.{items-start, item-room, item-small, item-turn}
