@@ -4,18 +4,19 @@ use mathlib.Core.List.{List}
 use Prim.Native.Nat.{ℕ, _≤_}
 use lib.ListN.{length, take}
 use Rattle.best.specs.Best.{scratchNeeded}
+use Rattle.lines.specs.Lines.{linesRoom}
 use Rattle.report.specs.Input.{mostRead}
 use Rattle.report.specs.Report.{linesOf}
 
--- Scratch enough for the best chain, and room for the lines of an input, so that neither ground 21 nor 22 is given.
-pub record RoomFor (input scratch out : List ℕ) : Type 0 where
+-- Scratch enough for the best chain, and an output that holds every report.
+pub record RoomFor (scratch out : List ℕ) : Type 0 where
   pub works : scratchNeeded ≤ length scratch
-  pub holds : length (linesOf input) ≤ length out
+  pub holds : linesRoom ≤ length out
 
--- The input is as long as what is read at most, and there is room for whatever is read.
+-- The input is as long as what is read at most, and there is room for its report.
 pub record Lent (input scratch out : List ℕ) : Type 0 where
   pub reads : length input ≡ mostRead
-  pub room : (read : List ℕ) → RoomFor read scratch out
+  pub room : RoomFor scratch out
 
 -- The first n bytes of the output are these.
 pub record Starts (out : List ℕ) (n : ℕ) (bytes : List ℕ) : Type 0 where

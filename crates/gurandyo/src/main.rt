@@ -1,5 +1,7 @@
 // The program: reads the two structures and the deck, and prints the best chain of their seeds.
-use report::report;
+use best::SCRATCH;
+use lines::ROOM;
+use report::gurandyo_report;
 ghost use mathlib.Core.Path.{_≡_};
 ghost use lib.ListN.{length};
 ghost use Rattle.io.specs.Counts.{Counts};
@@ -17,10 +19,10 @@ fn read_input(input: &mut [u8]) -> usize
 
 // Writes the lines of an input to the start of the output, and answers how many bytes they have.
 fn put_report(input: &[u8], scratch: &mut [u64], out: &mut [u8]) -> usize
-    requires { ⌜ RoomFor (now input) (now scratch) (now out) ⌝ }
+    requires { ⌜ RoomFor (now scratch) (now out) ⌝ }
     ensures { λ r. ⌜ Starts (now (out .exit)) r (linesOf (now (input .entry))) ⌝ }
 {
-    report(input, scratch, out).length
+    gurandyo_report(input, scratch, out)
 }
 
 // Prints bytes. No contract of `io` says what is written, so it is asked for here: they are the lines of the input.
@@ -42,7 +44,7 @@ fn run(input: &mut [u8], scratch: &mut [u64], out: &mut [u8])
 
 fn main() {
     let mut input = [0u8; 8192];
-    let mut scratch = [0u64; 4096];
-    let mut out = [0u8; 256];
+    let mut scratch = [0u64; SCRATCH];
+    let mut out = [0u8; ROOM];
     run(&mut input, &mut scratch, &mut out);
 }

@@ -43,6 +43,10 @@ unfoldable pub refusalLine : Said → List ℕ
 refusalLine accepted = []
 refusalLine (refused number place) = bytes "refused " ++ decimal number ++ placed place ++ bytes "\n"
 
--- Lines in an array of 256 bytes, with zeros behind them.
+-- How many bytes hold every report.
+abbrev pub linesRoom : ℕ
+linesRoom = 256
+
+-- Lines in an array of so many bytes, with zeros behind them.
 unfoldable pub printed : List ℕ → Lines
-printed line = record { bytes = line ++ replicate (256 - length line) 0; length = length line }
+printed line = record { bytes = line ++ replicate (linesRoom - length line) 0; length = length line }

@@ -1,15 +1,15 @@
 -- Parts of inputs and judged memory, computed from the definitions.
 use mathlib.Core.Path.{_≡_, refl}
+use mathlib.Core.Bool.{true, false}
 use mathlib.Core.List.{List, [], _∷_}
 use Prim.Native.Nat.{ℕ}
 use Prim.Native.String.{String}
-use Rattle.answer.specs.declared.Ground.the-variants.{ScratchShort, OutputShort}
-use Rattle.answer.specs.declared.Place.the-variants.{Nothing}
-use Rattle.answer.specs.declared.Answer.the-variants.{Accepted, Refused}
+use lib.ListN.{replicate}
+use Rattle.answer.specs.declared.Answer.the-variants.{Accepted}
 use Rattle.write.specs.Decimal.{bytes}
-use Rattle.write.specs.Wrote.{writtenOf}
+use Rattle.lines.specs.Lines.{printed}
 use Rattle.report.specs.Input.{readBytes, ahead, behind, textQ, textT, deckBytes}
-use Rattle.report.specs.Report.{reportedOf}
+use Rattle.report.specs.Report.{linesOf, shortReport, reportOf, memoryShort}
 
 -- Q, T and the deck of an input.
 abbrev partsOf : String → List (List ℕ)
@@ -22,10 +22,12 @@ pub inputs-parted :
 unfolding readBytes ahead behind
 inputs-parted = refl
 
--- Lent memory for lines of 14 bytes: a number of scratch too few, a byte of output too few, and just enough.
-abbrev line : List ℕ
-line = bytes "refused 1 Q 0\n"
+-- Lent memory judged, whatever the input: a number of scratch too few and just enough.
+pub rooms-judged : (input : List ℕ) → reportOf input 255 ∷ reportOf input 256 ∷ [] ≡ shortReport ∷ record { answer = Accepted; lines = printed (linesOf input) } ∷ []
+unfolding reportOf
+rooms-judged input = refl
 
-pub rooms-judged : reportedOf 4095 line 13 ∷ reportedOf 4096 line 13 ∷ reportedOf 4096 line 14 ∷ [] ≡ record { answer = Refused ScratchShort Nothing; length = 0 } ∷ record { answer = Refused OutputShort Nothing; length = 0 } ∷ record { answer = Accepted; length = 14 } ∷ []
-unfolding reportedOf writtenOf
-rooms-judged = refl
+-- For C and Rust: a byte of output too few, a number of scratch too few, and just enough.
+pub outputs-judged : memoryShort (replicate 256 0) (replicate 255 0) ∷ memoryShort (replicate 255 0) (replicate 256 0) ∷ memoryShort (replicate 256 0) (replicate 256 0) ∷ [] ≡ true ∷ true ∷ false ∷ []
+unfolding memoryShort
+outputs-judged = refl

@@ -1,4 +1,3 @@
 pub mod Parts
 pub mod Reports
-pub mod Copies
 pub mod Examples

@@ -1,20 +1,21 @@
 -- What a report answers and leaves, in each case of the code.
-use mathlib.Core.Path.{_≡_, refl, sym, ap, subst, _∙_}
+use mathlib.Core.Path.{_≡_, refl, sym, ap, ap₂, subst, _∙_}
 use mathlib.Core.Bool.{Bool, true, false, cond}
-use mathlib.Core.List.{List}
+use mathlib.Core.List.{List, []}
 use Prim.Native.Nat.{ℕ, _≤_, _<_}
+use native.Mathlib.Nat.{zero-add}
 use native.Mathlib.Omega.{arith}
-use lib.ListN.{length, take, replicate}
+use lib.ListN.{length, take, drop, length-append}
+use lib.Seq.{take-at}
 use lib.Dec.{ltb}
 use borrow.Author.Tests.{lt-ltb, le-ltb}
 use Rattle.answer.specs.Answer.{said}
-use Rattle.answer.specs.declared.Ground.the-variants.{ScratchShort}
-use Rattle.answer.specs.declared.Place.the-variants.{Nothing}
 use Rattle.answer.specs.declared.Answer.{Answer}
 use Rattle.answer.specs.declared.Answer.the-variants.{Accepted, Refused}
-use Rattle.write.specs.Wrote.{writtenOf, outputOf, Wrote}
-use Rattle.write.specs.declared.Written.{Written}
-use Rattle.write.proofs.Wrote.{written-all, wrote-front, wrote-within}
+use Rattle.write.specs.Puts.{Puts, Room}
+use Rattle.write.specs.Wrote.{withBytes}
+use Rattle.write.proofs.Puts.{puts-as, puts-output, puts-place}
+use Rattle.write.proofs.Sets.{sets-first}
 use Rattle.seed.proofs.Tabs.{length-tab}
 use Rattle.best.specs.Best.{scratchNeeded}
 use Rattle.best.specs.declared.Best.{Best}
@@ -24,13 +25,14 @@ use Rattle.chain.specs.Opening.{deckOpening, Opens}
 use Rattle.chain.specs.Looking.{bestIn, Chains}
 use Rattle.chain.specs.declared.Session.{Session}
 use Rattle.chain.proofs.Looks.{chosen, chain-passes}
-use Rattle.lines.specs.Lines.{resultLines, refusalLine, printed}
+use Rattle.lines.specs.Lines.{resultLines, refusalLine, linesRoom, printed}
 use Rattle.lines.specs.declared.Lines.{Lines}
 use Rattle.lines.proofs.Lengths.{length-refusal, length-result}
-use Rattle.lines.proofs.Printed.{printed-bytes}
+use Rattle.lines.proofs.Printed.{printed-fits, printed-bytes}
 use Rattle.report.specs.Input.{textQ, textT}
-use Rattle.report.specs.inner.Steps.{inputBetween, Parted, ChainPut}
-use Rattle.report.specs.Report.{outcomeOf, chainLines, linesBy, linesOf, zeroedBy, scratchLeft, scratchBy, reportedOf, reportOf, outputLeft, Reports}
+use Rattle.report.specs.inner.Steps.{inputBetween, Parted, ChainPrinted}
+use Rattle.report.specs.Report.{outcomeOf, chainLines, linesBy, linesOf, shortReport, reportOf, zeroedBy, scratchLeft, Reports, memoryShort, ReportPut}
+use Rattle.report.specs.declared.Reported.{Reported}
 use Rattle.report.specs.declared.input.Parts.{Parts}
 
 -- The session is opened on the three parts.
@@ -41,104 +43,121 @@ opens-input input q t d parts w is-q is-t is-d {a} {s} o =
     (subst (λ (x : List ℕ). Opens (deckOpening (textQ input) x d) a s) (is-t ∙ w .in-t .holds)
     (subst (λ (x : List ℕ). Opens (deckOpening x t d) a s) (is-q ∙ w .in-q .holds) o))
 
--- A chain has a flag for each of 64 numbers, so that its lines fit 256 bytes, as every report does.
-whole : (s : State) → length (bestIn s .chain) ≡ 64
-whole s = length-tab 64 _
+-- A chain has a flag for each of 64 numbers, so that the room holds its lines, as it does those of every report.
+chain-short : (s : State) → length (chainLines s) ≤ linesRoom
+chain-short s = omega (arith, length-result (bestIn s .total) (bestIn s .chain) (length-tab 64 _))
 
-pub chain-short : (s : State) → length (chainLines s) ≤ 256
-chain-short s = omega (arith, length-result (bestIn s .total) (bestIn s .chain) (whole s))
-
-pub lines-short : (input : List ℕ) → length (linesOf input) ≤ 256
+pub lines-short : (input : List ℕ) → length (linesOf input) ≤ linesRoom
 unfolding linesOf
 lines-short input = go (outcomeOf input .answer)
   where
-    go : (x : Answer) → length (linesBy x (outcomeOf input .state)) ≤ 256
+    go : (x : Answer) → length (linesBy x (outcomeOf input .state)) ≤ linesRoom
     go Accepted = chain-short (outcomeOf input .state)
     go (Refused g p) = omega (arith, length-refusal (said (Refused g p)))
 
 -- On a scratch that is long enough the best chain is worked out, and zeros are left.
-module _ {s : State} {scratch left : List ℕ} {r : Best} (room : scratchNeeded ≤ length scratch) (c : Chains s scratch left r) where
-  pub chain-lines : resultLines (r .total) (r .chain) ≡ chainLines s
-  chain-lines = ap (λ (x : Best). resultLines (x .total) (x .chain)) (chosen c (chain-passes c room) .answers)
+pub chain-printed : {s : State} {scratch left : List ℕ} {r : Best} {lines : Lines} → scratchNeeded ≤ length scratch → Chains s scratch left r → lines ≡ printed (resultLines (r .total) (r .chain)) → ChainPrinted s scratch left lines
+chain-printed long c is =
+    let best = chosen c (chain-passes c long) in
+    record { prints = is ∙ ap (λ (x : Best). printed (resultLines (x .total) (x .chain))) (best .answers); zeros = best .zeros }
 
-  pub chain-few : length (resultLines (r .total) (r .chain)) ≤ 256
-  chain-few = rw chain-lines (chain-short s)
+-- A report, by whether the scratch is too short, and by what the opening answered.
+pub reports-short : (input scratch : List ℕ) → ltb (length scratch) scratchNeeded ≡ true → Reports input scratch scratch shortReport
+unfolding reportOf scratchLeft
+reports-short input scratch short = record { answers = rw short; scratch-left = rw short }
 
-  pub chain-zeros : left ≡ replicate (length scratch) 0
-  chain-zeros = chosen c (chain-passes c room) .zeros
+module _ (input scratch : List ℕ) {left : List ℕ} {lines : Lines} (long : ltb (length scratch) scratchNeeded ≡ false) {a : Answer} {s : Session} (o : Opens (outcomeOf input) a s) where
+  reports-by : lines ≡ printed (linesOf input) → left ≡ zeroedBy (outcomeOf input .answer) scratch → Reports input scratch left (record { answer = Accepted; lines = lines })
+  unfolding reportOf scratchLeft
+  reports-by is e = record { answers = ap (λ (x : Lines). record { answer = Accepted; lines = x }) is ∙ rw long; scratch-left = e ∙ rw long }
 
--- Lines written from their array.
-pub wrote-lines : {line : List ℕ} {lines : Lines} {out after : List ℕ} {w : Written} → lines ≡ printed line → Wrote (take (lines .length) (lines .bytes)) out after w → Wrote line out after w
-wrote-lines {line} {lines} {out} {after} {w} is = subst (λ (bytes : List ℕ). Wrote bytes out after w) (printed-bytes line is)
+  pub reports-chain : a ≡ Accepted → ChainPrinted (view s) scratch left lines → Reports input scratch left (record { answer = Accepted; lines = lines })
+  unfolding linesOf
+  reports-chain ok put =
+      let yes : Accepted ≡ outcomeOf input .answer = sym ok ∙ o .answers in
+      let of-input : chainLines (view s) ≡ linesOf input = ap chainLines (o .leaves) ∙ ap (λ (x : Answer). linesBy x (outcomeOf input .state)) yes in
+      reports-by (put .prints ∙ ap printed of-input) (put .zeros ∙ ap (λ (x : Answer). zeroedBy x scratch) yes)
 
--- The lines of a chain are written, and the scratch is left by what is answered.
-module _ {s : State} {left worked out after : List ℕ} {r : Best} {lines : Lines} {w : Written} (room : scratchNeeded ≤ length worked) (c : Chains s worked left r) (is : lines ≡ printed (resultLines (r .total) (r .chain))) (put : Wrote (take (lines .length) (lines .bytes)) out after w) where
-  wrote-chain : Wrote (chainLines s) out after w
-  wrote-chain = subst (λ (line : List ℕ). Wrote line out after w) (chain-lines room c) (wrote-lines is put)
-
-  pub put-by : {scratch now : List ℕ} {x : Answer} → w .answer ≡ x → now ≡ scratchBy x (replicate (length scratch) 0) scratch → ChainPut s scratch now out after w
-  put-by {scratch = scratch} e f = record { wrote = wrote-chain; scratch-left = f ∙ ap (λ (x : Answer). scratchBy x (replicate (length scratch) 0) scratch) (sym e) }
-
-  -- An output of 256 bytes has room for them.
-  pub put-fits : 256 ≤ length out → w .answer ≡ Accepted
-  put-fits long = ap (λ (x : Written). x .answer) (wrote-chain .answers ∙ written-all (chainLines s) out (omega (arith, chain-short s)))
-
--- A report, by whether the scratch is long enough, and by what the opening answered.
-pub reports-short : (input scratch out : List ℕ) → length scratch < scratchNeeded → Reports input scratch scratch out out (record { answer = Refused ScratchShort Nothing; length = 0 })
-unfolding reportedOf outputLeft
-reports-short input scratch out h = record { answers = rw (lt-ltb _ _ h); scratch-left = refl; output-left = rw (lt-ltb _ _ h) }
-
-module _ (input scratch out after : List ℕ) (w : Written) (long : scratchNeeded ≤ length scratch) where
-  reports-by : (left : List ℕ) → Wrote (linesOf input) out after w → left ≡ scratchBy (w .answer) (scratchLeft input scratch) scratch → Reports input scratch left out after w
-  unfolding reportedOf outputLeft
-  reports-by left put e = record {
-    answers = put .answers ∙ rw (le-ltb (length scratch) scratchNeeded long);
-    scratch-left = e;
-    output-left = put .leaves ∙ rw (le-ltb (length scratch) scratchNeeded long);
-  }
-
-  module _ {a : Answer} {s : Session} (o : Opens (outcomeOf input) a s) where
-    pub reports-chain : (left : List ℕ) → a ≡ Accepted → ChainPut (view s) scratch left out after w → Reports input scratch left out after w
-    unfolding linesOf scratchLeft
-    reports-chain left ok put =
-        let yes : Accepted ≡ outcomeOf input .answer = sym ok ∙ o .answers in
-        let lines : chainLines (view s) ≡ linesOf input = ap chainLines (o .leaves) ∙ ap (λ (x : Answer). linesBy x (outcomeOf input .state)) yes in
-        reports-by left (subst (λ (l : List ℕ). Wrote l out after w) lines (put .wrote))
-        (put .scratch-left ∙ ap (λ (l : List ℕ). scratchBy (w .answer) l scratch) (ap (λ (x : Answer). zeroedBy x scratch) yes))
-
-    pub reports-refusal : (a ≡ Accepted → ⊥) → Wrote (refusalLine (said a)) out after w → Reports input scratch scratch out after w
-    unfolding linesOf scratchLeft
-    reports-refusal denied put = go (outcomeOf input .answer) (o .answers) refl
-      where
-        same : (x : Answer) (left : List ℕ) → left ≡ scratch → scratch ≡ scratchBy x left scratch
-        same Accepted left e = sym e
-        same (Refused g p) left e = refl
-
-        go : (x : Answer) → a ≡ x → x ≡ outcomeOf input .answer → Reports input scratch scratch out after w
-        go Accepted f e = absurd (denied f)
-        go (Refused g p) f e =
-            reports-by scratch
-            (subst (λ (l : List ℕ). Wrote l out after w) (ap (λ (y : Answer). refusalLine (said y)) f ∙ ap (λ (y : Answer). linesBy y (outcomeOf input .state)) e) put)
-            (same (w .answer) (scratchLeft input scratch) (ap (λ (y : Answer). zeroedBy y scratch) (sym e)))
-
--- The same, by the length alone.
-pub reports-length : (input scratch left out after : List ℕ) (r : Written) → Reports input scratch left out after r → Reports input scratch left out after (reportOf input scratch out) × (r .length ≡ reportOf input scratch out .length)
-reports-length input scratch left out after r w =
-    (record { answers = refl; scratch-left = w .scratch-left ∙ ap (λ (x : Written). scratchBy (x .answer) (scratchLeft input scratch) scratch) (w .answers); output-left = w .output-left }, ap (λ (x : Written). x .length) (w .answers))
-
--- The bytes written stand in the output.
-module _ (input scratch left out after : List ℕ) (r : Written) (w : Reports input scratch left out after r) where
-  pub reported-within : r .length ≤ length after
-  unfolding reportedOf outputLeft
-  reported-within = go (ltb (length scratch) scratchNeeded) (w .answers) (w .output-left)
+  pub reports-refusal : (a ≡ Accepted → ⊥) → lines ≡ printed (refusalLine (said a)) → left ≡ scratch → Reports input scratch left (record { answer = Accepted; lines = lines })
+  unfolding linesOf
+  reports-refusal denied is same = go (outcomeOf input .answer) (o .answers) refl
     where
-      go : (b : Bool) → r ≡ cond b (record { answer = Refused ScratchShort Nothing; length = 0 }) (writtenOf (linesOf input) (length out)) → after ≡ cond b out (outputOf (linesOf input) out) → r .length ≤ length after
-      go true e f = omega (arith, ap (λ (x : Written). x .length) e)
-      go false e f = wrote-within (linesOf input) out after r (record { answers = e; leaves = f })
+      go : (x : Answer) → a ≡ x → x ≡ outcomeOf input .answer → Reports input scratch left (record { answer = Accepted; lines = lines })
+      go Accepted f e = absurd (denied f)
+      go (Refused g p) f e =
+          reports-by
+          (is ∙ ap (λ (y : Answer). printed (refusalLine (said y))) f ∙ ap (λ (y : Answer). printed (linesBy y (outcomeOf input .state))) e)
+          (same ∙ ap (λ (y : Answer). zeroedBy y scratch) e)
 
-  -- With scratch enough, and room for the lines, they are what was written.
-  pub reported-lines : scratchNeeded ≤ length scratch → length (linesOf input) ≤ length out → take (r .length) after ≡ linesOf input
-  unfolding reportedOf outputLeft
-  reported-lines long fits =
-      let no = le-ltb (length scratch) scratchNeeded long in
-      wrote-front (linesOf input) out after r fits (record { answers = rw no at (w .answers); leaves = rw no at (w .output-left) })
+-- The lines that are answered: none on ground 21.
+module _ {input scratch left : List ℕ} {r : Reported} (w : Reports input scratch left r) where
+  abbrev answered : List ℕ
+  answered = cond (ltb (length scratch) scratchNeeded) [] (linesOf input)
+
+  answered-are : r .lines ≡ printed answered
+  unfolding reportOf
+  answered-are = ap (λ (x : Reported). x .lines) (w .answers) ∙ go (ltb (length scratch) scratchNeeded)
+    where
+      go : (b : Bool) → cond b shortReport (record { answer = Accepted; lines = printed (linesOf input) }) .lines ≡ printed (cond b [] (linesOf input))
+      go true = refl
+      go false = refl
+
+  answered-short : length answered ≤ linesRoom
+  answered-short = go (ltb (length scratch) scratchNeeded)
+    where
+      go : (b : Bool) → length (cond b [] (linesOf input)) ≤ linesRoom
+      go true = omega arith
+      go false = lines-short input
+
+  pub answered-fits : r .lines .length ≤ linesRoom
+  answered-fits = printed-fits answered answered-are answered-short
+
+  -- They are put to an output that holds every report.
+  pub report-put : {out after : List ℕ} {n : ℕ} → linesRoom ≤ length out → Puts (take (r .lines .length) (r .lines .bytes)) 0 out after n → ReportPut input scratch left out after n
+  unfolding memoryShort scratchLeft
+  report-put {out} {after} {n} holds put = go (ltb (length scratch) scratchNeeded) refl
+    where
+      room : Room answered 0 out
+      room = record { fits = omega (arith, answered-short) }
+
+      same : Puts answered 0 out after n
+      same = puts-as (printed-bytes answered answered-are) put
+
+      count : n ≡ length answered
+      count = puts-place room same ∙ zero-add (length answered)
+
+      output : after ≡ withBytes answered out
+      output = puts-output room same ∙ sets-first out answered (omega (arith, answered-short))
+
+      go : (b : Bool) → ltb (length scratch) scratchNeeded ≡ b → ReportPut input scratch left out after n
+      go true e =
+          let no = le-ltb (length out) linesRoom holds in
+          record { count = count ∙ rw (no, e); scratch-left = w .scratch-left ∙ rw (no, e); output-left = output ∙ rw (no, e) }
+      go false e =
+          let no = le-ltb (length out) linesRoom holds in
+          record { count = count ∙ rw (no, e); scratch-left = w .scratch-left ∙ rw (no, e); output-left = output ∙ rw (no, e) }
+
+-- An output that does not hold every report is left as it was, and so is the scratch.
+pub report-not-put : (input scratch out : List ℕ) → length out < linesRoom → ReportPut input scratch scratch out out 0
+unfolding memoryShort
+report-not-put input scratch out few =
+    let yes = lt-ltb (length out) linesRoom few in
+    record { count = rw yes; scratch-left = rw yes; output-left = rw yes }
+
+-- With memory enough the lines stand at the start of the output, as many bytes as were answered.
+module _ {input scratch left out after : List ℕ} {n : ℕ} (put : ReportPut input scratch left out after n) (long : scratchNeeded ≤ length scratch) (holds : linesRoom ≤ length out) where
+  enough : memoryShort scratch out ≡ false
+  unfolding memoryShort
+  enough = rw (le-ltb (length out) linesRoom holds, le-ltb (length scratch) scratchNeeded long)
+
+  all : n ≡ length (linesOf input)
+  all = put .count ∙ rw enough
+
+  start : after ≡ withBytes (linesOf input) out
+  start = put .output-left ∙ rw enough
+
+  pub put-within : n ≤ length after
+  put-within = omega (arith, all, ap length start, length-append (linesOf input) (drop (length (linesOf input)) out))
+
+  pub put-front : take n after ≡ linesOf input
+  put-front = ap₂ take all start ∙ take-at (linesOf input) (drop (length (linesOf input)) out) (length (linesOf input)) refl

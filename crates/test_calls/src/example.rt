@@ -16,6 +16,8 @@ use test_words::with_bytes;
 use write::Written;
 
 // README: begin
+use best::SCRATCH;
+
 // What is answered on the way.
 pub struct Answers {
     pub refusal: Answer,
@@ -32,7 +34,7 @@ pub struct Answers {
 pub fn example() -> Answers {
     let mut areas = [0u8; 1024];
     let mut deck = [0u8; 4484];
-    let mut scratch = [0u64; 4096];
+    let mut scratch = [0u64; SCRATCH];
     let opened = chain::open(b"(.(.)).", b"(.)(.)");
     let session = opened.session;
     // A seed is two lists, the nodes of Q and those of T, and a score.

@@ -1,4 +1,5 @@
 // All that a session lets be seen: the best chain, the open areas and the row of each seed, and the deck.
+use best::SCRATCH;
 use chain::Session;
 use test_words::plain::part;
 use test_words::plain::put;
@@ -26,7 +27,7 @@ fn put_total(out: &mut [u8], at: usize, total: u64) -> usize {
 fn put_best(session: Session, out: &mut [u8]) -> usize
     requires { ⌜ Sound session ⌝ }
 {
-    let mut scratch = [0u64; 4096];
+    let mut scratch = [0u64; SCRATCH];
     let best = session.best_chain(&mut scratch);
     let chain = best.chain;
     let end = put_flags(out, 0, chain);

@@ -3,6 +3,7 @@
 use super::redeal::redealt;
 use answer::Answer;
 use best::Best;
+use best::SCRATCH;
 use chain::Session;
 use chain::Shown;
 use seed::Pair;
@@ -94,7 +95,7 @@ pub fn best(session: Session, s: &[u8], at: usize) -> Text
     requires { ⌜ Sound session ⌝ }
 {
     let mut scratch = [7u64; 5000];
-    let n = number_or(s, at, 4096);
+    let n = number_or(s, at, SCRATCH);
     if 5000 < n {
         return blank();
     }

@@ -10,6 +10,7 @@ use test_calls::changes::open;
 use test_calls::changes::rescore;
 use test_calls::changes::rescore_lent;
 use test_calls::example;
+use test_calls::reports::exported;
 use test_calls::reports::report;
 use test_calls::views;
 use test_words::Text;
@@ -47,6 +48,9 @@ fn looking(session: Session, s: &[u8], at: usize, texts: usize) -> Text
     }
     if check::same(word(s, at), b"report") {
         return report(s, args);
+    }
+    if check::same(word(s, at), b"exported") {
+        return exported(s, args);
     }
     if check::same(word(s, at), b"random") {
         return random(s, args);

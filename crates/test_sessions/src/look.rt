@@ -2,6 +2,7 @@
 // deck.
 use super::play::Play;
 use best::Best;
+use best::SCRATCH;
 use chain::Session;
 use test_brute::areas::areas_right;
 use test_brute::seeds::List;
@@ -88,7 +89,7 @@ fn noted(p: Play, seen: Seen, count: Count) -> Play
 fn best_of(session: Session) -> Best
     requires { ⌜ Sound session ⌝ }
 {
-    let mut scratch = [7u64; 4096];
+    let mut scratch = [7u64; SCRATCH];
     session.best_chain(&mut scratch)
 }
 

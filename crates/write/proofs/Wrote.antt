@@ -1,21 +1,16 @@
 -- What is answered and left, by whether the output has room.
 use mathlib.Core.Path.{_≡_, refl, ap, ap₂, _∙_}
-use mathlib.Core.Bool.{Bool, true, false, cond}
 use mathlib.Core.List.{List, _++_}
 use Prim.Native.Nat.{ℕ, _≤_, _<_}
-use native.Mathlib.Omega.{arith}
-use lib.ListN.{length, take, drop, length-append}
+use lib.ListN.{length, take, drop}
 use lib.Seq.{sets, take-at}
-use lib.Dec.{leb}
 use borrow.Author.Tests.{le-leb, lt-leb}
 use Rattle.answer.specs.declared.Answer.the-variants.{Accepted, Refused}
 use Rattle.answer.specs.declared.Ground.the-variants.{OutputShort}
 use Rattle.answer.specs.declared.Place.the-variants.{Nothing}
 use Rattle.write.specs.Wrote.{writtenOf, outputOf, Wrote}
 use Rattle.write.specs.declared.Written.{Written}
-use Rattle.write.specs.Puts.{Puts}
 use Rattle.write.proofs.Sets.{sets-first}
-use Rattle.write.proofs.Puts.{puts-output}
 
 module _ (bytes out : List ℕ) where
   module _ (h : length bytes ≤ length out) where
@@ -39,10 +34,6 @@ module _ (bytes out : List ℕ) where
 pub wrote-all : (bytes out after : List ℕ) (n : ℕ) → n ≡ length bytes → length bytes ≤ length out → after ≡ sets out 0 bytes → Wrote bytes out after (record { answer = Accepted; length = n })
 wrote-all bytes out after n e h f = record { answers = rw (e, written-all bytes out h); leaves = output-all bytes out h f }
 
--- A word that was put to the start of an output with room for it is written.
-pub wrote-put : (bytes out after : List ℕ) (n next : ℕ) → n ≡ length bytes → length bytes ≤ length out → Puts bytes 0 out after next → Wrote bytes out after (record { answer = Accepted; length = n })
-wrote-put bytes out after n next e h put = wrote-all bytes out after n e h (puts-output (record { fits = omega arith }) put)
-
 -- The bytes stand at the start of the output, as many as were answered.
 pub wrote-front : (bytes before after : List ℕ) (r : Written) → length bytes ≤ length before → Wrote bytes before after r → take (r .length) after ≡ bytes
 unfolding writtenOf outputOf
@@ -51,12 +42,3 @@ wrote-front bytes before after r h w =
     let n : r .length ≡ length bytes = rw yes at (ap (λ (v : Written). v .length) (w .answers)) in
     let a : after ≡ bytes ++ drop (length bytes) before = rw yes at (w .leaves) in
     ap₂ take n a ∙ take-at bytes (drop (length bytes) before) (length bytes) refl
-
--- No more bytes are answered than the output has.
-pub wrote-within : (bytes before after : List ℕ) (r : Written) → Wrote bytes before after r → r .length ≤ length after
-unfolding writtenOf outputOf
-wrote-within bytes before after r w = go (leb (length bytes) (length before)) (w .answers) (w .leaves)
-  where
-    go : (b : Bool) → r ≡ cond b (record { answer = Accepted; length = length bytes }) (record { answer = Refused OutputShort Nothing; length = 0 }) → after ≡ cond b (bytes ++ drop (length bytes) before) before → r .length ≤ length after
-    go true e f = omega (arith, ap (λ (x : Written). x .length) e, ap length f, length-append bytes (drop (length bytes) before))
-    go false e f = omega (arith, ap (λ (x : Written). x .length) e)

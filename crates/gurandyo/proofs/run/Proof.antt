@@ -15,7 +15,7 @@ slice-aggregate-put-report : tie.Need-slice-aggregate-put-report
 slice-aggregate-put-report c = search needs
 
 put-report-requires : tie.Need-put-report-requires
-put-report-requires c κs = c .before .before .before .before .before .before .before .before .before .before .pre .room _
+put-report-requires c κs = c .before .before .before .before .before .before .before .before .before .before .pre .room
 
 slice-reshare-prefix-print-lines : tie.Need-slice-reshare-prefix-print-lines
 slice-reshare-prefix-print-lines c = search needs

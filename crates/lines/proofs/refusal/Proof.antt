@@ -1,4 +1,4 @@
--- `lines::refusal` meets its contract: 256 bytes have room for every line.
+-- `lines::refusal` meets its contract: the array has room for every line.
 use native.Mathlib.Omega.{arith}
 use Rattle.answer.specs.Answer.{said}
 use Rattle.lines.proofs.Lengths.{length-refusal}

@@ -1,4 +1,4 @@
--- `lines::result` meets its contract: 256 bytes have room for every line.
+-- `lines::result` meets its contract: the array has room for every line.
 use native.Mathlib.Omega.{arith}
 use Rattle.lines.proofs.Lengths.{length-result}
 use Rattle.lines.proofs.Printed.{zeros-room, puts-printed}

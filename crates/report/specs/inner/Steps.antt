@@ -1,4 +1,4 @@
--- What the inner functions of the report promise: where the parts of the input lie, and the lines of a best chain put.
+-- What the inner functions of the report promise: where the parts of the input lie, and the lines of a best chain.
 use mathlib.Core.Path.{_≡_}
 use mathlib.Core.List.{List}
 use Prim.Native.Nat.{ℕ, _+_, _-_, _≤_}
@@ -6,10 +6,10 @@ use lib.ListN.{length, take, drop, replicate}
 use Rattle.report.specs.declared.input.Part.{Part}
 use Rattle.report.specs.declared.input.Parts.{Parts}
 use Rattle.report.specs.Input.{ahead, deckBytes, textQ, textT}
-use Rattle.write.specs.Wrote.{Wrote}
-use Rattle.write.specs.declared.Written.{Written}
 use Rattle.chain.specs.State.{State}
-use Rattle.report.specs.Report.{chainLines, scratchBy}
+use Rattle.lines.specs.Lines.{printed}
+use Rattle.lines.specs.declared.Lines.{Lines}
+use Rattle.report.specs.Report.{chainLines}
 
 -- A part lies within the input, from its start up to its end, and holds these bytes.
 pub record Lies (input : List ℕ) (part : Part) (held : List ℕ) : Type 0 where
@@ -31,7 +31,7 @@ inputBetween input start end = take (end - start) (drop start input)
 abbrev pub partFrom : List ℕ → ℕ → ℕ → Part
 partFrom input start end = record { start = start; end = start + length (ahead (inputBetween input start end)) }
 
--- The lines of a session's best chain are written, and the scratch is zero, or as it was on a refusal.
-pub record ChainPut (s : State) (scratch scratch′ out out′ : List ℕ) (r : Written) : Type 0 where
-  pub wrote : Wrote (chainLines s) out out′ r
-  pub scratch-left : scratch′ ≡ scratchBy (r .answer) (replicate (length scratch) 0) scratch
+-- The lines of a session's best chain, worked out on a scratch that is zero then.
+pub record ChainPrinted (s : State) (scratch scratch′ : List ℕ) (r : Lines) : Type 0 where
+  pub prints : r ≡ printed (chainLines s)
+  pub zeros : scratch′ ≡ replicate (length scratch) 0
