@@ -45,7 +45,7 @@ fn too_short() -> Best
 }
 
 // Zero in all of the scratch.
-pub fn clear(scratch: &mut [u64])
+fn clear(scratch: &mut [u64])
     ensures { λ r. ⌜ now (scratch .exit) ≡ replicate (length (now (scratch .entry))) 0 ⌝ }
 {
     let mut i = 0;

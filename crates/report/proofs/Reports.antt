@@ -25,7 +25,7 @@ use Rattle.chain.specs.Opening.{deckOpening, Opens}
 use Rattle.chain.specs.Looking.{bestIn, Chains}
 use Rattle.chain.specs.declared.Session.{Session}
 use Rattle.chain.proofs.Looks.{chosen, chain-passes}
-use Rattle.lines.specs.Lines.{resultLines, refusalLine, linesRoom, printed}
+use Rattle.lines.specs.Lines.{scoreLine, resultLines, refusalLine, linesRoom, printed}
 use Rattle.lines.specs.declared.Lines.{Lines}
 use Rattle.lines.proofs.Lengths.{length-refusal, length-result}
 use Rattle.lines.proofs.Printed.{printed-fits, printed-bytes}
@@ -54,6 +54,15 @@ lines-short input = go (outcomeOf input .answer)
     go : (x : Answer) → length (linesBy x (outcomeOf input .state)) ≤ linesRoom
     go Accepted = chain-short (outcomeOf input .state)
     go (Refused g p) = omega (arith, length-refusal (said (Refused g p)))
+
+-- No report is empty, so that 0 bytes written tell of short memory.
+pub lines-some : (input : List ℕ) → 0 < length (linesOf input)
+unfolding linesOf resultLines scoreLine refusalLine
+lines-some input = go (outcomeOf input .answer)
+  where
+    go : (x : Answer) → 0 < length (linesBy x (outcomeOf input .state))
+    go Accepted = omega arith
+    go (Refused g p) = omega arith
 
 -- On a scratch that is long enough the best chain is worked out, and zeros are left.
 pub chain-printed : {s : State} {scratch left : List ℕ} {r : Best} {lines : Lines} → scratchNeeded ≤ length scratch → Chains s scratch left r → lines ≡ printed (resultLines (r .total) (r .chain)) → ChainPrinted s scratch left lines

@@ -1,4 +1,5 @@
 // The report of an input, as a script names it. The input is lines and then a deck's bytes.
+use super::views::LONGEST;
 use super::views::all_words;
 use super::views::remarked;
 use answer::Answer;
@@ -62,10 +63,10 @@ fn put_input(s: &[u8], at: usize, input: &mut [u8]) -> usize {
 // report LINES DECK [SCRATCH]
 pub fn report(s: &[u8], at: usize) -> Text {
     let mut input = [0u8; 8192];
-    let mut scratch = [7u64; 5000];
+    let mut scratch = [7u64; LONGEST];
     let end = put_input(s, at, &mut input);
     let words = number_or(s, next(s, next(s, at)), SCRATCH);
-    if 5000 < words {
+    if LONGEST < words {
         return blank();
     }
     report_on(part(&input, 0, end), &mut scratch[..words])
@@ -88,13 +89,13 @@ fn exported_on(input: &[u8], scratch: &mut [u64], out: &mut [u8]) -> Text {
 // exported LINES DECK SCRATCH ROOM: the form for C and Rust.
 pub fn exported(s: &[u8], at: usize) -> Text {
     let mut input = [0u8; 8192];
-    let mut scratch = [7u64; 5000];
+    let mut scratch = [7u64; LONGEST];
     let mut out = [170u8; 512];
     let end = put_input(s, at, &mut input);
     let sizes = next(s, next(s, at));
     let words = number(s, sizes);
     let room = number(s, next(s, sizes));
-    if 5000 < words {
+    if LONGEST < words {
         return blank();
     }
     if 512 < room {

@@ -90,13 +90,16 @@ fn best_on(session: Session, scratch: &mut [u64]) -> Text
     remarked(with_best(blank(), best), right, b", scratch not left so")
 }
 
+// The longest scratch that a script can name.
+pub const LONGEST: usize = 5000;
+
 // best [SCRATCH]
 pub fn best(session: Session, s: &[u8], at: usize) -> Text
     requires { ⌜ Sound session ⌝ }
 {
-    let mut scratch = [7u64; 5000];
+    let mut scratch = [7u64; LONGEST];
     let n = number_or(s, at, SCRATCH);
-    if 5000 < n {
+    if LONGEST < n {
         return blank();
     }
     best_on(session, &mut scratch[..n])
