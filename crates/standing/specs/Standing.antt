@@ -48,7 +48,7 @@ pub record Stood (Q T : List ℕ) (rows : List Row) (s : Standing) : Type 0 wher
   pub under : (y : ℕ) → y < s .count → getD (s .unders) y 0 ≡ maskOf (λ x. seed.under Q T (seedAt rows (s .numbers) x) (seedAt rows (s .numbers) y)) y
 
 -- These arrays hold a table that calls hand over, whatever its scores are.
-pub record Held (q t : Tree) (qs ts bounds : List ℕ) (present : List Bool) (seeds : ℕ) : Type 0 where
+pub record Handed (q t : Tree) (qs ts bounds : List ℕ) (present : List Bool) (seeds : ℕ) : Type 0 where
   pub scores : List ℤ
   pub kept : Kept q t (tableOf qs ts bounds scores present seeds)
 

@@ -8,7 +8,7 @@ use tree::Tree;
 ghost use mathlib.Core.Path.{_≡_};
 ghost use Prim.Native.Nat.{_≤_};
 ghost use lib.ListN.{length, take};
-ghost use Rattle.standing.specs.Standing.{Held, StoodIn};
+ghost use Rattle.standing.specs.Standing.{Handed, StoodIn};
 
 // The numbers of the present seeds, counted from 0, by rising q of the last pair and then by number, as many as count says; and for each the
 // masks of those before it that stand left of it and under it.
@@ -37,7 +37,7 @@ pub fn stood<'a>(
     present: &'a [bool; 64],
     seeds: usize,
 ) -> Standing
-    requires { ⌜ Held q t (now qs) (now ts) (now bounds) (now present) seeds ⌝ }
+    requires { ⌜ Handed q t (now qs) (now ts) (now bounds) (now present) seeds ⌝ }
     ensures { λ r. ⌜ StoodIn q t (now (qs .entry)) (now (ts .entry)) (now (bounds .entry)) (now (present .entry)) seeds r ⌝ }
 {
     let order = ordered(qs, bounds, present, seeds);
