@@ -22,7 +22,7 @@ use Rattle.optimum.specs.Key.{Key, seedKey, inMask}
 use Rattle.optimum.specs.Best as optimum
 use Rattle.best.specs.declared.Best.{Best}
 
--- Ground 21: the scratch has fewer numbers than this.
+-- Ground 21: the scratch has fewer numbers than this (document 02, j, where 01 had 4,096).
 abbrev pub scratchNeeded : ℕ
 scratchNeeded = 256
 

@@ -12,8 +12,8 @@ use standing::stood;
 use tree::Tree;
 ghost use mathlib.Core.Path.{_≡_};
 ghost use lib.ListN.{length, replicate};
-ghost use Rattle.table.specs.Table.{tableOf, Kept};
 ghost use lib.Dec.{ltb};
+ghost use Rattle.table.specs.Table.{tableOf, Kept};
 ghost use Rattle.best.specs.Best.{scratchNeeded, tooShort, Answered};
 
 // How many numbers the scratch must have.
