@@ -25,7 +25,7 @@ use Rattle.chain.specs.State.{State, changed, countAnswer}
 use Rattle.chain.specs.Acts.{Act, add, rescore, moving, moveAnswer, rescoreAnswer, grounds, after, step, numberGiven}
 use Rattle.chain.specs.View.{view, Sound, Does}
 use Rattle.chain.specs.declared.Session.{Session}
-use Rattle.chain.proofs.Judges.{Rescorable, rescorable, Movable, movable, count-room}
+use Rattle.chain.proofs.Judges.{by-moving, Rescorable, rescorable, Movable, movable, count-room}
 
 -- The session of an opening, whose seeds count as adds.
 abbrev pub opened : Tree → Tree → Table → Session
@@ -71,11 +71,6 @@ module _ (s : Session) (k : ℕ) (z : ℤ) (h : Sound s) {a : Answer} (e : a ≡
       rescores {r} w = does-accepted s r (rescore k z) a is-rescore ok (w .0 ∙ ap (changed (view s)) (n .is)) (w .1)
 
 -- Another presence for number k.
-by-moving : (s : State) (k : ℕ) (to : Bool) → moveAnswer s k to ≡ grounds s (moving k to)
-unfolding grounds
-by-moving s k true = refl
-by-moving s k false = refl
-
 after-moving : (s : State) (k : ℕ) (to : Bool) → changed s (withRow (s .rows) k (withPresence (rowOf (s .rows) k) to)) ≡ after (moving k to) s
 after-moving s k true = refl
 after-moving s k false = refl
@@ -85,7 +80,7 @@ module _ (s : Session) (k : ℕ) (to : Bool) (h : Sound s) {a : Answer} (e : a �
   moves-not {g} {p} f = does-refused s (moving k to) a g p h (e ∙ by-moving (view s) k to) f
 
   module _ (ok : a ≡ Accepted) where
-    pub move-known : Movable (view s) k
+    pub move-known : Movable (view s) k to
     move-known = movable (view s) k to (sym e ∙ ok)
 
     abbrev row-moved : Row

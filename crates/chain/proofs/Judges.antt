@@ -13,7 +13,7 @@ use Rattle.seed.specs.declared.Pair.{Pair}
 use Rattle.table.specs.Rows.{Row, noRow, givenOut, rowOf, summaryOf, inRange}
 use Rattle.table.specs.declared.Summary.{Summary}
 use Rattle.chain.specs.State.{State, countAnswer}
-use Rattle.chain.specs.Acts.{add, rescore, addAnswer, moveAnswer, rescoreAnswer, grounds}
+use Rattle.chain.specs.Acts.{add, rescore, addAnswer, moveAnswer, rescoreAnswer, grounds, moving}
 
 pub beq-true : (b : Bool) → b ≡ Bool·beq true b
 beq-true true = refl
@@ -22,6 +22,12 @@ beq-true false = refl
 pub beq-false : (b : Bool) → not b ≡ Bool·beq false b
 beq-false true = refl
 beq-false false = refl
+
+beq-other : (a b : Bool) → Bool·beq a b ≡ false → a ≡ not b
+beq-other true true e = e
+beq-other true false e = refl
+beq-other false true e = refl
+beq-other false false e = sym e
 
 both-true : (a b : Bool) → (a && b) ≡ true → (a ≡ true) × (b ≡ true)
 both-true true b e = (refl, e)
@@ -55,6 +61,12 @@ pub rescore-passed : (s : State) (k : ℕ) (z : ℤ) → grounds s (rescore k z)
 unfolding grounds
 rescore-passed s k z e = e
 
+-- Withdrawing and bringing back answer alike but for what the seed is to be.
+pub by-moving : (s : State) (k : ℕ) (to : Bool) → moveAnswer s k to ≡ grounds s (moving k to)
+unfolding grounds
+by-moving s k true = refl
+by-moving s k false = refl
+
 -- What an accepted rescoring and an accepted moving know.
 pub record Rescorable (s : State) (k : ℕ) (z : ℤ) : Type 0 where
   pub number : Given (length (s .rows)) k
@@ -67,14 +79,16 @@ rescorable s k z e =
     let b = not-given _ _ _ _ (a .1) in
     record { number = given-out (length (s .rows)) k (a .0); ranged = not-false (inRange z) (b .0); room = count-room (s .changes) (b .1) }
 
-pub record Movable (s : State) (k : ℕ) : Type 0 where
+pub record Movable (s : State) (k : ℕ) (to : Bool) : Type 0 where
   pub number : Given (length (s .rows)) k
+  pub was : rowOf (s .rows) k .present ≡ not to
   pub room : s .changes < 1000000
 
-pub movable : (s : State) (k : ℕ) (to : Bool) → moveAnswer s k to ≡ Accepted → Movable s k
+pub movable : (s : State) (k : ℕ) (to : Bool) → moveAnswer s k to ≡ Accepted → Movable s k to
 movable s k to e =
     let a = not-given _ _ _ _ e in
-    record { number = given-out (length (s .rows)) k (a .0); room = count-room (s .changes) (not-given (Bool·beq (rowOf (s .rows) k .present) to) _ _ _ (a .1) .1) }
+    let b = not-given (Bool·beq (rowOf (s .rows) k .present) to) _ _ _ (a .1) in
+    record { number = given-out (length (s .rows)) k (a .0); was = beq-other (rowOf (s .rows) k .present) to (b .0); room = count-room (s .changes) (b .1) }
 
 -- Whether a seed is as it is asked to be, by what its row says.
 pub as-asked : (rows : List Row) (k : ℕ) (to : Bool) {row : Summary} {b x : Bool} → row ≡ summaryOf (getD rows (k - 1) noRow) → b ≡ Bool·beq (row .present) to → b ≡ x → Bool·beq (rowOf rows k .present) to ≡ x

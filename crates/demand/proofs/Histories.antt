@@ -1,6 +1,6 @@
 -- A session that a list of calls handed over is sound, and its state is that of the list's history.
 use mathlib.Core.Path.{_≡_, refl, sym, ap, _∙_}
-use mathlib.Core.Bool.{Bool, true, false, cond}
+use mathlib.Core.Bool.{Bool, true, false, cond, false≢true}
 use mathlib.Core.List.{List, [], _∷_}
 use Rattle.answer.specs.Answer.{decide, isAccepted}
 use Rattle.answer.specs.declared.Answer.{Answer}
@@ -14,7 +14,7 @@ use Rattle.chain.specs.View.{view, Sound}
 use Rattle.chain.specs.Opening.{Outcome}
 use Rattle.chain.specs.declared.Session.{Session}
 use Rattle.chain.specs.declared.Shown.{Shown}
-use Rattle.demand.specs.History.{Event, stateOf}
+use Rattle.demand.specs.History.{Event, event, stateOf}
 use Rattle.demand.specs.Reached.{Looked, Reached}
 use Rattle.demand.specs.Reached.Looked.{chained, listed, written, shown}
 use Rattle.demand.specs.Reached.Reached.{opened, called, looked}
@@ -36,6 +36,10 @@ looked-answer (shown k e) = ap (λ (x : Shown). x .answer) e
 by-event : {A : Type 0} (a : Answer) (x y : A) → decide a x y ≡ cond (isAccepted a) x y
 by-event Accepted x y = refl
 by-event (Refused g p) x y = refl
+
+was-accepted : (a : Answer) → isAccepted a ≡ true → a ≡ Accepted
+was-accepted Accepted e = refl
+was-accepted (Refused g p) e = absurd (false≢true e)
 
 either-same : {A : Type 0} (b : Bool) (x y : A) → x ≡ y → y ≡ cond b x y
 either-same true x y e = sym e
@@ -75,3 +79,19 @@ by-history {o} (called {s} {next} {h} {act} {a} w d) =
     d .leaves ∙ by-event a (after act (view s)) (view s) ∙ ap (λ (x : State). cond (isAccepted a) (after act x) x) (by-history w)
 by-history {o} (looked {s} {h} {act} {a} w l) =
     by-history w ∙ either-same (isAccepted a) (after act (stateOf (o .state) h)) (stateOf (o .state) h) (still l (stateOf (o .state) h))
+
+-- The last call of a list was made on a session that the calls before it handed over, and if it was accepted, its grounds said so.
+abbrev LastCall : Outcome → List Event → Type 0
+LastCall o [] = Unit {0}
+LastCall o (e ∷ h) = ((s : Session) × Reached o s h) × (e .accepted ≡ true → grounds (stateOf (o .state) h) (e .act) ≡ Accepted)
+
+last-call : {o : Outcome} {s : Session} {h : List Event} → Reached o s h → LastCall o h
+last-call (opened w) = tt
+last-call {o} (called {s} {next} {h} {act} {a} w d) = ((s, w), λ ok. ap (λ (x : State). grounds x act) (sym (by-history w)) ∙ sym (d .answers) ∙ was-accepted a ok)
+last-call {o} (looked {s} {h} {act} {a} w l) = ((s, w), λ ok. ap (λ (x : State). grounds x act) (sym (by-history w)) ∙ sym (looked-answer l) ∙ was-accepted a ok)
+
+pub session-before : {o : Outcome} {s : Session} {h : List Event} {e : Event} → Reached o s (e ∷ h) → (earlier : Session) × Reached o earlier h
+session-before w = last-call w .0
+
+pub accepted-by : {o : Outcome} {s : Session} {h : List Event} {act : Act} → Reached o s (event act Accepted ∷ h) → grounds (stateOf (o .state) h) act ≡ Accepted
+accepted-by w = last-call w .1 refl

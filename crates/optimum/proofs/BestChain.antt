@@ -11,7 +11,8 @@ use Rattle.optimum.specs.Key.{Key, inMask, seedKey}
 use Rattle.optimum.specs.Best.{best}
 use Rattle.optimum.specs.inner.Table.{Numbered}
 use Rattle.optimum.proofs.Booleans.{Is, yes, no, is, T-neq, T-ext, and-i, and-l, and-r}
-use Rattle.optimum.proofs.Keys.{_≼_, more, same, no-gap, gap-le, le-antisym}
+use Rattle.optimum.proofs.WholeNumbers.{no-gap, gap-le, le-antisym}
+use Rattle.optimum.proofs.Keys.{_≼_, more, same}
 use Rattle.optimum.proofs.Chains.{value, value-cong, best-upper, Attained, best-attained}
 use Rattle.optimum.proofs.Masks.{mask-tie, mask-bit}
 use Rattle.optimum.proofs.Numbers.{value-total, value-mask, named, Position, named-only, named-at, value-named}

@@ -4,13 +4,14 @@ use mathlib.Core.Bool.{Bool, true, _&&_}
 use Prim.Native.Nat.{ℕ, zero, suc, _+_, _*_, _^_, _≤_, _<_}
 use native.Mathlib.Nat.{pow-le-pow-right}
 use native.Mathlib.Omega.{arith}
-use lib.IntN.{ℤ, pos, _+ℤ_, +ℤ-assoc, +ℤ-comm}
+use lib.IntN.{ℤ, pos}
 use lib.Dec.{T, leb→le}
 use lib.Signed.{_≤ℤ_}
 use Rattle.optimum.specs.Key.{Key, empty, _⊕_, better, maskOf}
 use Rattle.optimum.specs.inner.Table.{Items, itemsChainable, bestAmong, Laws, Limited, withUnder, maxBelow, KeysUnder, KeyRow, stored, Small}
 use Rattle.optimum.proofs.Booleans.{Is, yes, no, is, and-l, or-r}
-use Rattle.optimum.proofs.Keys.{gap-le, le-gap, empty-⊕, better-ind}
+use Rattle.optimum.proofs.WholeNumbers.{gap-le, le-trans, le-add}
+use Rattle.optimum.proofs.Keys.{empty-⊕, better-ind}
 use Rattle.optimum.proofs.Chains.{value, value-in, value-out, Attained, skipped, kept, weakened, best-attained}
 use Rattle.optimum.proofs.Split.{Down, under-and-left}
 use Rattle.optimum.proofs.Recurrence.{left-best}
@@ -18,24 +19,6 @@ use Rattle.optimum.proofs.Masks.{mask-below}
 use Rattle.optimum.proofs.Numbers.{named, value-mask, fewer, value-named}
 
 -- ---- totals
-
-le-more : (z : ℤ) (x y : ℕ) → z ≤ℤ pos x → z ≤ℤ pos (y + x)
-le-more z x y h = let g = le-gap z (pos x) h in gap-le z (pos (y + x)) (g .0 + y) (sym (sym (+ℤ-assoc z (pos (g .0)) (pos y)) ∙ ap (λ (t : ℤ). t +ℤ pos y) (g .1) ∙ ap pos (omega arith)))
-
-le-add : (z z′ : ℤ) (x x′ : ℕ) → z ≤ℤ pos x → z′ ≤ℤ pos x′ → (z +ℤ z′) ≤ℤ pos (x + x′)
-le-add z z′ x x′ h h′ = gap-le (z +ℤ z′) (pos (x + x′)) (g .0 + g′ .0) (sym (regroup ∙ ap₂ _+ℤ_ (g .1) (g′ .1)))
-  where
-    g : (n : ℕ) × (z +ℤ pos n ≡ pos x)
-    g = le-gap z (pos x) h
-
-    g′ : (n : ℕ) × (z′ +ℤ pos n ≡ pos x′)
-    g′ = le-gap z′ (pos x′) h′
-
-    regroup : z +ℤ z′ +ℤ (pos (g .0) +ℤ pos (g′ .0)) ≡ z +ℤ pos (g .0) +ℤ (z′ +ℤ pos (g′ .0))
-    regroup =
-        +ℤ-assoc z z′ (pos (g .0) +ℤ pos (g′ .0))
-        ∙ ap (λ t. z +ℤ t) (sym (+ℤ-assoc z′ (pos (g .0)) (pos (g′ .0))) ∙ ap (λ t. t +ℤ pos (g′ .0)) (+ℤ-comm z′ (pos (g .0))) ∙ +ℤ-assoc (pos (g .0)) z′ (pos (g′ .0)))
-        ∙ sym (+ℤ-assoc z (pos (g .0)) (z′ +ℤ pos (g′ .0)))
 
 value-total-most : (w : ℕ → Key) (most : ℕ) (f : ℕ → Bool) (n : ℕ) → ((k : ℕ) → k < n → w k .total ≤ℤ pos most) → value w f n .total ≤ℤ pos (n * most)
 unfolding value empty _⊕_
@@ -46,8 +29,8 @@ value-total-most w most f (suc n) h = go (is (f n)) (value-total-most w most f n
     sum = omega arith
 
     go : Is (f n) → value w f n .total ≤ℤ pos (n * most) → value w f (suc n) .total ≤ℤ pos (suc n * most)
-    go (yes t) lower = rw (sum, value-in w f n t) (le-add (w n .total) (value w f n .total) most (n * most) (h n (omega arith)) lower)
-    go (no t) lower = rw (sum, value-out w f n t) (le-more (value w f n .total) (n * most) most lower)
+    go (yes t) lower = rw (sum, value-in w f n t) (le-add (w n .total) (pos most) (value w f n .total) (pos (n * most)) (h n (omega arith)) lower)
+    go (no t) lower = rw (sum, value-out w f n t) (le-trans (value w f n .total) (pos (n * most)) (pos (most + n * most)) lower (gap-le (pos (n * most)) (pos (most + n * most)) most (ap pos (omega arith))))
 
 -- ---- the keys of a table
 

@@ -1,4 +1,5 @@
 pub mod Booleans
+pub mod WholeNumbers
 pub mod Keys
 pub mod StoredKeys
 pub mod Chains
@@ -9,4 +10,5 @@ pub mod Masks
 pub mod Numbers
 pub mod Bounds
 pub mod BestChain
+pub mod OneSeed
 pub mod Examples

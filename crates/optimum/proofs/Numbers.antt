@@ -49,7 +49,7 @@ module _ (w : ℕ → Key) (f : ℕ → Bool) (k : ℕ) (t : T (not (f k))) wher
         value-out w f n (subst (λ x. T (not (f x))) q t),
       )
 
-  value-insert : (n : ℕ) → k < n → value w with-k n ≡ w k ⊕ value w f n
+  pub value-insert : (n : ℕ) → k < n → value w with-k n ≡ w k ⊕ value w f n
   value-insert zero b = absurd (omega arith)
   value-insert (suc n) b = go (is (eqb k n)) (is (f n)) (value-insert n)
     where

@@ -5,7 +5,8 @@ use native.Mathlib.Omega.{arith}
 use lib.IntN.{ℤ, pos, negsuc, _+ℤ_}
 use Rattle.optimum.specs.Key.{Key, empty, _⊕_, better}
 use Rattle.optimum.specs.inner.Table.{stored}
-use Rattle.optimum.proofs.Keys.{key-eq, _≼_, more, same, better-left, better-right, sub-ge}
+use Rattle.optimum.proofs.WholeNumbers.{sub-ge}
+use Rattle.optimum.proofs.Keys.{key-eq, _≼_, more, same, better-left, better-right}
 
 -- Stored keys are added number by number.
 pub stored-add : (t m t′ m′ : ℕ) → stored t m ⊕ stored t′ m′ ≡ stored (t + t′) (m + m′)

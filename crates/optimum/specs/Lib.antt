@@ -1,5 +1,6 @@
 -- What a reader believes, in document 01's order.
 pub mod Chain
+pub mod OneSeed
 -- The same computed.
 pub mod Key
 pub mod Best

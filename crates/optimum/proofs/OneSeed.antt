@@ -1,0 +1,212 @@
+-- How far the total of the best chain can move when one seed gets another score or another presence (document 02, m).
+use mathlib.Core.Path.{_≡_, refl, sym, ap, subst, _∙_}
+use mathlib.Core.Bool.{Bool, true, false, not, cond, _&&_, _||_}
+use Prim.Native.Nat.{ℕ, zero, suc, _<_}
+use lib.IntN.{ℤ, pos, negℤ, _+ℤ_, _-ℤ_, +ℤ-assoc, +ℤ-comm, +ℤ-idr, +ℤ-invl}
+use lib.Dec.{T, T-not, not-T, eqb, eqb→eq, eqb-refl}
+use lib.Signed.{_≤ℤ_, ltZ, ltZ-no, ≤ℤ-refl}
+use Rattle.optimum.specs.Chain.{Seeds, Chain, totalOf, total, IsBest}
+use Rattle.optimum.specs.Key.{Key, _⊕_, seedKey}
+use Rattle.optimum.specs.OneSeed.{seedsScored, seedsMarked, greaterOf}
+use Rattle.optimum.proofs.Booleans.{Is, yes, no, is, T-eq, T-neq, T-ext, and-i, and-l, and-r, or-l, or-r, or-e, eqb-not, not-eqb}
+use Rattle.optimum.proofs.WholeNumbers.{lt-gap, gap-le, le-antisym, le-trans, swap-last, le-plus, le-add, le-minus}
+use Rattle.optimum.proofs.Chains.{value-cong}
+use Rattle.optimum.proofs.Numbers.{value-total, value-insert}
+
+-- ---- one set
+
+-- A total reads the scores of its set only.
+total-cong : (a b : ℕ → ℤ) (g : ℕ → Bool) (n : ℕ) → ((i : ℕ) → T (g i) → a i ≡ b i) → totalOf a g n ≡ totalOf b g n
+unfolding totalOf
+total-cong a b g zero h = refl
+total-cong a b g (suc n) h = go (g n) (h n) (total-cong a b g n h)
+  where
+    go : (x : Bool) → (T x → a n ≡ b n) → totalOf a g n ≡ totalOf b g n → cond x (a n +ℤ totalOf a g n) (totalOf a g n) ≡ cond x (b n +ℤ totalOf b g n) (totalOf b g n)
+    go true e lower = rw (e tt, lower)
+    go false e lower = lower
+
+-- The set without the number k.
+abbrev without : (ℕ → Bool) → ℕ → ℕ → Bool
+without g k i = not (eqb k i) && g i
+
+without-other : (g : ℕ → Bool) (k i : ℕ) → T (without g k i) → k ≡ i → ⊥
+without-other g k i t = not-eqb k i (and-l (not (eqb k i)) (g i) t)
+
+-- The score of a number in the set stands apart from the total of the others.
+total-split : (score : ℕ → ℤ) (g : ℕ → Bool) (k n : ℕ) → T (g k) → k < n → totalOf score g n ≡ score k +ℤ totalOf score (without g k) n
+unfolding _⊕_
+total-split score g k n t b =
+    sym (value-total score g n)
+    ∙ ap (λ (x : Key). x .total) (value-cong (seedKey score) g (λ i. eqb k i || without g k i) n (λ i l. same i) ∙ value-insert (seedKey score) (without g k) k gone n b)
+    ∙ ap (λ (x : ℤ). score k +ℤ x) (value-total score (without g k) n)
+  where
+    gone : T (not (without g k k))
+    gone = not-T (without g k k) (λ s. without-other g k k s refl)
+
+    back : (i : ℕ) → T (eqb k i || without g k i) → T (g i)
+    back i = or-e (eqb k i) (without g k i) (λ e. subst (λ x. T (g x)) (eqb→eq k i e) t) (and-r (not (eqb k i)) (g i))
+
+    into : (i : ℕ) → Is (eqb k i) → T (g i) → T (eqb k i || without g k i)
+    into i (yes e) s = or-l (eqb k i) (without g k i) e
+    into i (no e) s = or-r (eqb k i) (without g k i) (and-i (not (eqb k i)) (g i) e s)
+
+    same : (i : ℕ) → g i ≡ (eqb k i || without g k i)
+    same i = T-ext (g i) (eqb k i || without g k i) (into i (is (eqb k i))) (back i)
+
+-- ---- another score
+
+module _ (S : Seeds) (k : ℕ) (score : ℕ → ℤ) (others : (i : ℕ) → (k ≡ i → ⊥) → score i ≡ S .score i) where
+  abbrev scored : Seeds
+  scored = record { count = S .count; present = S .present; score = score; Chainable = S .Chainable }
+
+  from-scored : {g : ℕ → Bool} → Chain scored g → Chain S g
+  from-scored c = record { given = c .given; present = c .present; chainable = c .chainable }
+
+  to-scored : {g : ℕ → Bool} → Chain S g → Chain scored g
+  to-scored c = record { given = c .given; present = c .present; chainable = c .chainable }
+
+  -- A set without k has the same total.
+  total-same : (g : ℕ → Bool) → T (not (g k)) → total scored g ≡ total S g
+  total-same g t = total-cong score (S .score) g (S .count) (λ i s. others i (λ e. T-not (g k) t (subst (λ x. T (g x)) (sym e) s)))
+
+  -- If k is withdrawn, so has the best chain.
+  module _ {f f′ : ℕ → Bool} (a : IsBest S f) (b : IsBest scored f′) (gone : S .present k ≡ false) where
+    lacks-k : {g : ℕ → Bool} → Chain S g → T (not (g k))
+    lacks-k {g} c = not-T (g k) (λ t. subst T gone (c .present k t))
+
+    best-same : total scored f′ ≡ total S f
+    best-same =
+        le-antisym (total scored f′) (total S f)
+        (rw (total-same f′ (lacks-k (from-scored (b .chain)))) (a .greatest f′ (from-scored (b .chain))))
+        (rw (← (total-same f (lacks-k (a .chain)))) (b .greatest f (to-scored (a .chain))))
+
+  module _ (d : ℕ) (here : score k ≡ S .score k +ℤ pos d) where
+    -- A set with k has d more.
+    total-raised : (g : ℕ → Bool) → T (g k) → k < S .count → total scored g ≡ total S g +ℤ pos d
+    total-raised g t b =
+        total-split score g k (S .count) t b
+        ∙ ap (λ (x : ℤ). score k +ℤ x) (total-cong score (S .score) (without g k) (S .count) (λ i s. others i (without-other g k i s)))
+        ∙ ap (λ (x : ℤ). x +ℤ totalOf (S .score) (without g k) (S .count)) here
+        ∙ swap-last (S .score k) (pos d) (totalOf (S .score) (without g k) (S .count))
+        ∙ ap (λ (x : ℤ). x +ℤ pos d) (sym (total-split (S .score) g k (S .count) t b))
+
+    total-between : (g : ℕ → Bool) → Chain S g → (total S g ≤ℤ total scored g) × (total scored g ≤ℤ (total S g +ℤ pos d))
+    total-between g c = go (is (g k))
+      where
+        more : total S g ≤ℤ (total S g +ℤ pos d)
+        more = gap-le (total S g) (total S g +ℤ pos d) d refl
+
+        go : Is (g k) → (total S g ≤ℤ total scored g) × (total scored g ≤ℤ (total S g +ℤ pos d))
+        go (yes t) = let e = total-raised g t (c .given k t) in (rw e more, rw e (≤ℤ-refl (total S g +ℤ pos d)))
+        go (no t) = let e = total-same g t in (rw e (≤ℤ-refl (total S g)), rw e more)
+
+    -- So it is with the best chains.
+    best-between : {f f′ : ℕ → Bool} → IsBest S f → IsBest scored f′ → (total S f ≤ℤ total scored f′) × (total scored f′ ≤ℤ (total S f +ℤ pos d))
+    best-between {f} {f′} a b =
+        let c = from-scored (b .chain) in
+        (
+          le-trans (total S f) (total scored f) (total scored f′) (total-between f (a .chain) .0) (b .greatest f (to-scored (a .chain))),
+          le-trans (total scored f′) (total S f′ +ℤ pos d) (total S f +ℤ pos d) (total-between f′ c .1) (le-plus (total S f′) (total S f) (pos d) (a .greatest f′ c)),
+        )
+
+-- ---- another presence
+
+greater-l : (a b : ℤ) → a ≤ℤ greaterOf a b
+unfolding greaterOf
+greater-l a b = go (ltZ a b) (λ t. let g = lt-gap a b t in gap-le a b (suc (g .0)) (g .1))
+  where
+    go : (x : Bool) → (T x → a ≤ℤ b) → a ≤ℤ cond x b a
+    go true h = h tt
+    go false h = ≤ℤ-refl a
+
+greater-r : (a b : ℤ) → b ≤ℤ greaterOf a b
+unfolding greaterOf
+greater-r a b = go (ltZ a b) ltZ-no
+  where
+    go : (x : Bool) → (T (not x) → b ≤ℤ a) → b ≤ℤ cond x b a
+    go true h = ≤ℤ-refl b
+    go false h = h tt
+
+-- The best chain of some of the seeds, all but k.
+module _ (S : Seeds) (k : ℕ) (present : ℕ → Bool) (others : (i : ℕ) → (k ≡ i → ⊥) → present i ≡ S .present i) (gone : present k ≡ false) where
+  abbrev some : Seeds
+  some = record { count = S .count; present = present; score = S .score; Chainable = S .Chainable }
+
+  from-some : {g : ℕ → Bool} → Chain some g → Chain S g
+  from-some {g} c = record { given = c .given; present = λ i t. subst T (others i (other i t)) (c .present i t); chainable = c .chainable }
+    where
+      other : (i : ℕ) → T (g i) → k ≡ i → ⊥
+      other i t e = subst T gone (subst (λ x. T (present x)) (sym e) (c .present i t))
+
+  to-some : {g : ℕ → Bool} → Chain S g → ((i : ℕ) → T (g i) → k ≡ i → ⊥) → Chain some g
+  to-some c other = record { given = c .given; present = λ i t. subst T (sym (others i (other i t))) (c .present i t); chainable = c .chainable }
+
+  -- A chain stays one without k.
+  shortened : {g : ℕ → Bool} → Chain S g → Chain some (without g k)
+  shortened {g} c =
+      let in-g : (i : ℕ) → T (without g k i) → T (g i) = λ i. and-r (not (eqb k i)) (g i) in
+      to-some
+      (record { given = λ i t. c .given i (in-g i t); present = λ i t. c .present i (in-g i t); chainable = λ i j s t. c .chainable i j (in-g i s) (in-g j t) })
+      (without-other g k)
+
+  best-without : {f f′ : ℕ → Bool} → IsBest S f → IsBest some f′ → (total some f′ ≤ℤ total S f) × (total S f ≤ℤ (total some f′ +ℤ greaterOf (S .score k) (pos 0)))
+  best-without {f} {f′} a b = (a .greatest f′ (from-some (b .chain)), go (is (f k)))
+    where
+      go : Is (f k) → total S f ≤ℤ (total some f′ +ℤ greaterOf (S .score k) (pos 0))
+      go (yes t) =
+          rw (total-split (S .score) f k (S .count) t (a .chain .given k t) ∙ +ℤ-comm (S .score k) (total S (without f k)))
+          (le-add (total S (without f k)) (total some f′) (S .score k) (greaterOf (S .score k) (pos 0)) (b .greatest (without f k) (shortened (a .chain))) (greater-l (S .score k) (pos 0)))
+      go (no t) =
+          rw (← (+ℤ-idr (total S f)))
+          (le-add (total S f) (total some f′) (pos 0) (greaterOf (S .score k) (pos 0)) (b .greatest f (to-some (a .chain) (λ i s e. T-not (f k) t (subst (λ x. T (f x)) (sym e) s)))) (greater-r (S .score k) (pos 0)))
+
+-- ---- how far the best total moves
+
+at-k : {A : Type 0} (k : ℕ) (x y : A) → cond (eqb k k) x y ≡ x
+at-k k x y = rw (T-eq {b = eqb k k} (eqb-refl k))
+
+off-k : {A : Type 0} (k i : ℕ) (x y : A) → (k ≡ i → ⊥) → cond (eqb k i) x y ≡ y
+off-k k i x y ne = rw (T-neq {b = eqb k i} (eqb-not k i ne))
+
+module _ (S : Seeds) (k d : ℕ) where
+  abbrev higher : Seeds
+  higher = seedsScored S k (S .score k +ℤ pos d)
+
+  -- Raising a score by d raises the best total by no less than 0 and no more than d.
+  pub raised : {f f′ : ℕ → Bool} → IsBest S f → IsBest higher f′ → (total S f ≤ℤ total higher f′) × (total higher f′ ≤ℤ (total S f +ℤ pos d))
+  raised a b = best-between S k (higher .score) (λ i. off-k k i _ _) d (at-k k _ _) a b
+
+  abbrev lower : Seeds
+  lower = seedsScored S k (S .score k -ℤ pos d)
+
+  -- Lowering a score by d lowers the best total by no more than d and never raises it.
+  pub lowered : {f f′ : ℕ → Bool} → IsBest S f → IsBest lower f′ → ((total S f -ℤ pos d) ≤ℤ total lower f′) × (total lower f′ ≤ℤ total S f)
+  lowered {f} {f′} a b =
+      let back : (S .score k -ℤ pos d) +ℤ pos d ≡ S .score k = +ℤ-assoc (S .score k) (negℤ (pos d)) (pos d) ∙ ap (λ (x : ℤ). S .score k +ℤ x) (+ℤ-invl (pos d)) ∙ +ℤ-idr (S .score k) in
+      let m = best-between lower k (S .score) (λ i ne. sym (off-k k i _ _ ne)) d (sym (ap (λ (x : ℤ). x +ℤ pos d) (at-k k _ _) ∙ back)) b a in
+      (le-minus (total S f) (total lower f′) (pos d) (m .1), m .0)
+
+-- Any score of a withdrawn seed leaves the best total.
+pub absent-scored : (S : Seeds) (k : ℕ) (z : ℤ) {f f′ : ℕ → Bool} → S .present k ≡ false → IsBest S f → IsBest (seedsScored S k z) f′ → total (seedsScored S k z) f′ ≡ total S f
+absent-scored S k z gone a b = best-same S k (seedsScored S k z .score) (λ i. off-k k i _ _) a b gone
+
+module _ (S : Seeds) (k : ℕ) where
+  -- What a seed of score s can count for: the greater of s and 0.
+  abbrev most : ℤ
+  most = greaterOf (S .score k) (pos 0)
+
+  abbrev less : Seeds
+  less = seedsMarked S k false
+
+  -- Withdrawing a seed lowers the best total by no more than that and never raises it.
+  pub withdrawn : {f f′ : ℕ → Bool} → IsBest S f → IsBest less f′ → ((total S f -ℤ most) ≤ℤ total less f′) × (total less f′ ≤ℤ total S f)
+  withdrawn {f} {f′} a b =
+      let m = best-without S k (less .present) (λ i. off-k k i _ _) (at-k k _ _) a b in
+      (le-minus (total S f) (total less f′) most (m .1), m .0)
+
+  abbrev more : Seeds
+  more = seedsMarked S k true
+
+  -- Bringing it back raises the best total by no less than 0 and no more than that.
+  pub brought-back : {f f′ : ℕ → Bool} → S .present k ≡ false → IsBest S f → IsBest more f′ → (total S f ≤ℤ total more f′) × (total more f′ ≤ℤ (total S f +ℤ most))
+  brought-back gone a b = best-without more k (S .present) (λ i ne. sym (off-k k i _ _ ne)) gone b a
