@@ -1,8 +1,8 @@
 -- A session after an opening, and after a rescoring, a withdrawal, a bringing back or an add that was accepted or refused.
 use mathlib.Core.Path.{_≡_, refl, sym, ap, _∙_}
-use mathlib.Core.Bool.{Bool, true, false}
+use mathlib.Core.Bool.{Bool}
 use mathlib.Core.List.{List, [], _∷_, _++_}
-use Prim.Native.Nat.{ℕ, _+_, _-_, _<_}
+use Prim.Native.Nat.{ℕ, _-_, _<_}
 use native.Mathlib.Omega.{arith}
 use lib.ListN.{length, set, length-append}
 use lib.IntN.{ℤ}
@@ -21,11 +21,11 @@ use Rattle.table.proofs.Tables.{rows-length}
 use Rattle.table.proofs.Held.{kept-set}
 use Rattle.adding.specs.Adding.{Grows}
 use Rattle.chain.specs.Opening.{startWith}
-use Rattle.chain.specs.State.{State, changed, countAnswer}
+use Rattle.chain.specs.State.{changed, countAnswer}
 use Rattle.chain.specs.Acts.{Act, add, rescore, moving, moveAnswer, rescoreAnswer, grounds, after, step, numberGiven}
 use Rattle.chain.specs.View.{view, Sound, Does}
 use Rattle.chain.specs.declared.Session.{Session}
-use Rattle.chain.proofs.Judges.{by-moving, Rescorable, rescorable, Movable, movable, count-room}
+use Rattle.chain.proofs.Judges.{by-moving, after-moving, Rescorable, rescorable, Movable, movable, count-room}
 
 -- The session of an opening, whose seeds count as adds.
 abbrev pub opened : Tree → Tree → Table → Session
@@ -71,10 +71,6 @@ module _ (s : Session) (k : ℕ) (z : ℤ) (h : Sound s) {a : Answer} (e : a ≡
       rescores {r} w = does-accepted s r (rescore k z) a is-rescore ok (w .0 ∙ ap (changed (view s)) (n .is)) (w .1)
 
 -- Another presence for number k.
-after-moving : (s : State) (k : ℕ) (to : Bool) → changed s (withRow (s .rows) k (withPresence (rowOf (s .rows) k) to)) ≡ after (moving k to) s
-after-moving s k true = refl
-after-moving s k false = refl
-
 module _ (s : Session) (k : ℕ) (to : Bool) (h : Sound s) {a : Answer} (e : a ≡ moveAnswer (view s) k to) where
   pub moves-not : {g : Ground} {p : Place} → a ≡ Refused g p → Does s (moving k to) a s
   moves-not {g} {p} f = does-refused s (moving k to) a g p h (e ∙ by-moving (view s) k to) f

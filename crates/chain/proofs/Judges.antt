@@ -10,10 +10,10 @@ use borrow.Author.Tests.{leb-true, leb-false, not-false}
 use Rattle.answer.proofs.Given.{not-given}
 use Rattle.answer.specs.declared.Answer.the-variants.{Accepted}
 use Rattle.seed.specs.declared.Pair.{Pair}
-use Rattle.table.specs.Rows.{Row, noRow, givenOut, rowOf, summaryOf, inRange}
+use Rattle.table.specs.Rows.{Row, noRow, givenOut, rowOf, withRow, withPresence, summaryOf, inRange}
 use Rattle.table.specs.declared.Summary.{Summary}
-use Rattle.chain.specs.State.{State, countAnswer}
-use Rattle.chain.specs.Acts.{add, rescore, addAnswer, moveAnswer, rescoreAnswer, grounds, moving}
+use Rattle.chain.specs.State.{State, changed, countAnswer}
+use Rattle.chain.specs.Acts.{add, rescore, addAnswer, moveAnswer, rescoreAnswer, grounds, after, moving}
 
 pub beq-true : (b : Bool) → b ≡ Bool·beq true b
 beq-true true = refl
@@ -61,11 +61,15 @@ pub rescore-passed : (s : State) (k : ℕ) (z : ℤ) → grounds s (rescore k z)
 unfolding grounds
 rescore-passed s k z e = e
 
--- Withdrawing and bringing back answer alike but for what the seed is to be.
+-- Withdrawing and bringing back, by what the seed is to be: what they answer, and what they leave.
 pub by-moving : (s : State) (k : ℕ) (to : Bool) → moveAnswer s k to ≡ grounds s (moving k to)
 unfolding grounds
 by-moving s k true = refl
 by-moving s k false = refl
+
+pub after-moving : (s : State) (k : ℕ) (to : Bool) → changed s (withRow (s .rows) k (withPresence (rowOf (s .rows) k) to)) ≡ after (moving k to) s
+after-moving s k true = refl
+after-moving s k false = refl
 
 -- What an accepted rescoring and an accepted moving know.
 pub record Rescorable (s : State) (k : ℕ) (z : ℤ) : Type 0 where

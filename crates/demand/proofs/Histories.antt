@@ -41,9 +41,19 @@ was-accepted : (a : Answer) → isAccepted a ≡ true → a ≡ Accepted
 was-accepted Accepted e = refl
 was-accepted (Refused g p) e = absurd (false≢true e)
 
-either-same : {A : Type 0} (b : Bool) (x y : A) → x ≡ y → y ≡ cond b x y
-either-same true x y e = sym e
+either-same : {A : Type 0} (b : Bool) (x y : A) → x ≡ y → cond b x y ≡ y
+either-same true x y e = e
 either-same false x y e = refl
+
+pub looked-still : {s : Session} {act : Act} {a : Answer} → Looked s act a → (start : State) (h : List Event) → stateOf start (event act a ∷ h) ≡ stateOf start h
+unfolding stateOf
+looked-still {s} {act} {a} l start h = either-same (isAccepted a) (after act (stateOf start h)) (stateOf start h) (still l (stateOf start h))
+
+-- So does a refused call.
+pub refused-still : (act : Act) (a : Answer) → (a ≡ Accepted → ⊥) → (start : State) (h : List Event) → stateOf start (event act a ∷ h) ≡ stateOf start h
+unfolding stateOf
+refused-still act Accepted denied start h = absurd (denied refl)
+refused-still act (Refused g p) denied start h = refl
 
 pub reached-sound : {o : Outcome} {s : Session} {h : List Event} → Reached o s h → Sound s
 reached-sound (opened w) = w .sound
@@ -77,8 +87,7 @@ unfolding stateOf
 by-history (opened w) = w .leaves
 by-history {o} (called {s} {next} {h} {act} {a} w d) =
     d .leaves ∙ by-event a (after act (view s)) (view s) ∙ ap (λ (x : State). cond (isAccepted a) (after act x) x) (by-history w)
-by-history {o} (looked {s} {h} {act} {a} w l) =
-    by-history w ∙ either-same (isAccepted a) (after act (stateOf (o .state) h)) (stateOf (o .state) h) (still l (stateOf (o .state) h))
+by-history {o} (looked {s} {h} w l) = by-history w ∙ sym (looked-still l (o .state) h)
 
 -- The last call of a list was made on a session that the calls before it handed over, and if it was accepted, its grounds said so.
 abbrev LastCall : Outcome → List Event → Type 0

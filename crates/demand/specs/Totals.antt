@@ -20,8 +20,8 @@ pub data TotalBy (o : Outcome) (h : List Event) : ℕ → Type 0 where
 
 -- A history goes on from h by calls that move no seed and no score: each leaves the rows as they were.
 pub data QuietSince (start : State) (h : List Event) : List Event → Type 0 where
-  begins : QuietSince start h h
-  goes-on : {later : List Event} {e : Event} → QuietSince start h later → stateOf start (e ∷ later) .rows ≡ stateOf start later .rows → QuietSince start h (e ∷ later)
+  at-once : QuietSince start h h
+  and-one : {later : List Event} {e : Event} → QuietSince start h later → stateOf start (e ∷ later) .rows ≡ stateOf start later .rows → QuietSince start h (e ∷ later)
 
 -- Best chain was asked, and asked again: in between one call was accepted, at the end of the history h, and all others, best chain among them,
 -- moved no seed and no score.

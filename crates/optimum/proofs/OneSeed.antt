@@ -103,8 +103,7 @@ module _ (S : Seeds) (k : ℕ) (score : ℕ → ℤ) (others : (i : ℕ) → (k 
     -- So it is with the best chains.
     best-between : {f f′ : ℕ → Bool} → IsBest S f → IsBest scored f′ → (total S f ≤ℤ total scored f′) × (total scored f′ ≤ℤ (total S f +ℤ pos d))
     best-between {f} {f′} a b =
-        let c = from-scored (b .chain) in
-        (
+        let c = from-scored (b .chain) in (
           le-trans (total S f) (total scored f) (total scored f′) (total-between f (a .chain) .0) (b .greatest f (to-scored (a .chain))),
           le-trans (total scored f′) (total S f′ +ℤ pos d) (total S f +ℤ pos d) (total-between f′ c .1) (le-plus (total S f′) (total S f) (pos d) (a .greatest f′ c)),
         )
@@ -168,45 +167,42 @@ at-k k x y = rw (T-eq {b = eqb k k} (eqb-refl k))
 off-k : {A : Type 0} (k i : ℕ) (x y : A) → (k ≡ i → ⊥) → cond (eqb k i) x y ≡ y
 off-k k i x y ne = rw (T-neq {b = eqb k i} (eqb-not k i ne))
 
-module _ (S : Seeds) (k d : ℕ) where
-  abbrev higher : Seeds
-  higher = seedsScored S k (S .score k +ℤ pos d)
+-- The best chains f of the seeds S, and f′ of the seeds S′, which are S with another score or another presence for number k.
+module _ {S S′ : Seeds} {f f′ : ℕ → Bool} (a : IsBest S f) (b : IsBest S′ f′) (k : ℕ) where
+  -- Raising the score by d raises the total by no less than 0 and no more than d.
+  pub raised : (d : ℕ) → S′ ≡ seedsScored S k (S .score k +ℤ pos d) → (total S f ≤ℤ total S′ f′) × (total S′ f′ ≤ℤ (total S f +ℤ pos d))
+  raised d e =
+      subst (λ (X : Seeds). IsBest X f′ → (total S f ≤ℤ total X f′) × (total X f′ ≤ℤ (total S f +ℤ pos d))) (sym e)
+      (λ c. best-between S k _ (λ i. off-k k i _ _) d (at-k k _ _) a c) b
 
-  -- Raising a score by d raises the best total by no less than 0 and no more than d.
-  pub raised : {f f′ : ℕ → Bool} → IsBest S f → IsBest higher f′ → (total S f ≤ℤ total higher f′) × (total higher f′ ≤ℤ (total S f +ℤ pos d))
-  raised a b = best-between S k (higher .score) (λ i. off-k k i _ _) d (at-k k _ _) a b
+  -- Lowering it by d lowers the total by no more than d and never raises it.
+  pub lowered : (d : ℕ) → S′ ≡ seedsScored S k (S .score k -ℤ pos d) → ((total S f -ℤ pos d) ≤ℤ total S′ f′) × (total S′ f′ ≤ℤ total S f)
+  lowered d e =
+      let z = S .score k in
+      let back : (z -ℤ pos d) +ℤ pos d ≡ z = +ℤ-assoc z (negℤ (pos d)) (pos d) ∙ ap (λ (x : ℤ). z +ℤ x) (+ℤ-invl (pos d)) ∙ +ℤ-idr z in
+      let m =
+      subst (λ (X : Seeds). IsBest X f′ → (total X f′ ≤ℤ total S f) × (total S f ≤ℤ (total X f′ +ℤ pos d))) (sym e)
+      (λ c. best-between (seedsScored S k (z -ℤ pos d)) k (S .score) (λ i ne. sym (off-k k i _ _ ne)) d (sym (ap (λ (x : ℤ). x +ℤ pos d) (at-k k _ _) ∙ back)) c a) b
+      in
+      (le-minus (total S f) (total S′ f′) (pos d) (m .1), m .0)
 
-  abbrev lower : Seeds
-  lower = seedsScored S k (S .score k -ℤ pos d)
+  -- Any score of a withdrawn seed leaves it.
+  pub absent-scored : (z : ℤ) → S′ ≡ seedsScored S k z → S .present k ≡ false → total S′ f′ ≡ total S f
+  absent-scored z e gone =
+      subst (λ (X : Seeds). IsBest X f′ → total X f′ ≡ total S f) (sym e)
+      (λ c. best-same S k _ (λ i. off-k k i _ _) a c gone) b
 
-  -- Lowering a score by d lowers the best total by no more than d and never raises it.
-  pub lowered : {f f′ : ℕ → Bool} → IsBest S f → IsBest lower f′ → ((total S f -ℤ pos d) ≤ℤ total lower f′) × (total lower f′ ≤ℤ total S f)
-  lowered {f} {f′} a b =
-      let back : (S .score k -ℤ pos d) +ℤ pos d ≡ S .score k = +ℤ-assoc (S .score k) (negℤ (pos d)) (pos d) ∙ ap (λ (x : ℤ). S .score k +ℤ x) (+ℤ-invl (pos d)) ∙ +ℤ-idr (S .score k) in
-      let m = best-between lower k (S .score) (λ i ne. sym (off-k k i _ _ ne)) d (sym (ap (λ (x : ℤ). x +ℤ pos d) (at-k k _ _) ∙ back)) b a in
-      (le-minus (total S f) (total lower f′) (pos d) (m .1), m .0)
+  -- Withdrawing a seed of score s lowers the total by no more than the greater of s and 0, and never raises it.
+  pub withdrawn : S′ ≡ seedsMarked S k false → ((total S f -ℤ greaterOf (S .score k) (pos 0)) ≤ℤ total S′ f′) × (total S′ f′ ≤ℤ total S f)
+  withdrawn e =
+      let m =
+      subst (λ (X : Seeds). IsBest X f′ → (total X f′ ≤ℤ total S f) × (total S f ≤ℤ (total X f′ +ℤ greaterOf (S .score k) (pos 0)))) (sym e)
+      (λ c. best-without S k _ (λ i. off-k k i _ _) (at-k k _ _) a c) b
+      in
+      (le-minus (total S f) (total S′ f′) (greaterOf (S .score k) (pos 0)) (m .1), m .0)
 
--- Any score of a withdrawn seed leaves the best total.
-pub absent-scored : (S : Seeds) (k : ℕ) (z : ℤ) {f f′ : ℕ → Bool} → S .present k ≡ false → IsBest S f → IsBest (seedsScored S k z) f′ → total (seedsScored S k z) f′ ≡ total S f
-absent-scored S k z gone a b = best-same S k (seedsScored S k z .score) (λ i. off-k k i _ _) a b gone
-
-module _ (S : Seeds) (k : ℕ) where
-  -- What a seed of score s can count for: the greater of s and 0.
-  abbrev most : ℤ
-  most = greaterOf (S .score k) (pos 0)
-
-  abbrev less : Seeds
-  less = seedsMarked S k false
-
-  -- Withdrawing a seed lowers the best total by no more than that and never raises it.
-  pub withdrawn : {f f′ : ℕ → Bool} → IsBest S f → IsBest less f′ → ((total S f -ℤ most) ≤ℤ total less f′) × (total less f′ ≤ℤ total S f)
-  withdrawn {f} {f′} a b =
-      let m = best-without S k (less .present) (λ i. off-k k i _ _) (at-k k _ _) a b in
-      (le-minus (total S f) (total less f′) most (m .1), m .0)
-
-  abbrev more : Seeds
-  more = seedsMarked S k true
-
-  -- Bringing it back raises the best total by no less than 0 and no more than that.
-  pub brought-back : {f f′ : ℕ → Bool} → S .present k ≡ false → IsBest S f → IsBest more f′ → (total S f ≤ℤ total more f′) × (total more f′ ≤ℤ (total S f +ℤ most))
-  brought-back gone a b = best-without more k (S .present) (λ i ne. sym (off-k k i _ _ ne)) gone b a
+  -- Bringing it back raises the total by no less than 0 and no more than that.
+  pub brought-back : S′ ≡ seedsMarked S k true → S .present k ≡ false → (total S f ≤ℤ total S′ f′) × (total S′ f′ ≤ℤ (total S f +ℤ greaterOf (S .score k) (pos 0)))
+  brought-back e gone =
+      subst (λ (X : Seeds). IsBest X f′ → (total S f ≤ℤ total X f′) × (total X f′ ≤ℤ (total S f +ℤ greaterOf (S .score k) (pos 0)))) (sym e)
+      (λ c. best-without (seedsMarked S k true) k (S .present) (λ i ne. sym (off-k k i _ _ ne)) gone c a) b

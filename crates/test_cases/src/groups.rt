@@ -1,4 +1,6 @@
 // The groups of random cases.
+use test_nudges::moves::print_moves;
+use test_nudges::nudges;
 use test_random::stretches::stretches;
 use test_random::tally::Count;
 use test_random::tally::print_count;
@@ -38,6 +40,14 @@ fn random_sessions(cases: usize, seed: usize) -> Text {
     wrong(count)
 }
 
+fn random_nudges(cases: usize, seed: usize) -> Text {
+    let all = nudges(cases, seed as u64);
+    let count = all.count;
+    print_count(b"random nudges: ", count);
+    print_moves(all);
+    wrong(count)
+}
+
 // random GROUP CASES SEED
 pub fn random(s: &[u8], at: usize) -> Text {
     let cases = next(s, at);
@@ -47,6 +57,9 @@ pub fn random(s: &[u8], at: usize) -> Text {
     }
     if check::same(word(s, at), b"stretches") {
         return random_stretches(number(s, cases), number(s, seed));
+    }
+    if check::same(word(s, at), b"nudges") {
+        return random_nudges(number(s, cases), number(s, seed));
     }
     random_sessions(number(s, cases), number(s, seed))
 }

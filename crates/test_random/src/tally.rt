@@ -98,7 +98,8 @@ fn refused(c: Count, ground: usize) -> usize {
     if ground < 23 { c.by_ground[ground] } else { 0 }
 }
 
-fn with_count(t: Text, n: usize, what: &[u8]) -> Text {
+// A number of what was counted, in a line.
+pub fn with_count(t: Text, n: usize, what: &[u8]) -> Text {
     with_bytes(with_number(t, n), what)
 }
 

@@ -1,7 +1,7 @@
 // Random sessions on two small trees: eight lists are added and six changes made, with the best chain after each step; then the open areas of
 // every seed and the deck.
 mod look;
-mod play;
+pub mod play;
 
 use look::best;
 use look::deal;
@@ -115,7 +115,7 @@ fn one(q: Sample, t: Sample, state: &mut u64, counts: Counts) -> Counts {
 }
 
 // The second structure: half the time the first again.
-fn other(q: Sample, state: &mut u64) -> Sample {
+pub fn other(q: Sample, state: &mut u64) -> Sample {
     if draw(state, 2) == 0 {
         return q;
     }

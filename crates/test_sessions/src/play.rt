@@ -79,7 +79,7 @@ fn with_new(t: Table, trees: Trees, l: List, points: usize, ground: usize) -> Ta
     t
 }
 
-fn added(session: Session, qs: [u8; 4], ts: [u8; 4], n: usize, score: i32) -> Added
+pub fn added(session: Session, qs: [u8; 4], ts: [u8; 4], n: usize, score: i32) -> Added
     requires { ⌜ Sound session ⌝ }
     ensures { λ r. ⌜ Sound (r .session) ⌝ }
 {

@@ -84,11 +84,12 @@ pub fn number_or(s: &[u8], at: usize, other: usize) -> usize {
     number(s, at)
 }
 
-fn positive(n: usize) -> i32 {
+// The number as a score, and below 0.
+pub fn positive(n: usize) -> i32 {
     if n < 2000000000 { n as i32 } else { 0 }
 }
 
-fn negative(n: usize) -> i32 {
+pub fn negative(n: usize) -> i32 {
     if n < 2000000000 { 0 - n as i32 } else { 0 }
 }
 
