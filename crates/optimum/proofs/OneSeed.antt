@@ -69,7 +69,7 @@ module _ (S : Seeds) (k : ℕ) (score : ℕ → ℤ) (others : (i : ℕ) → (k 
   total-same : (g : ℕ → Bool) → T (not (g k)) → total scored g ≡ total S g
   total-same g t = total-cong score (S .score) g (S .count) (λ i s. others i (λ e. T-not (g k) t (subst (λ x. T (g x)) (sym e) s)))
 
-  -- If k is withdrawn, so has the best chain.
+  -- If k is withdrawn, no chain has it, and the best chains have the same total.
   module _ {f f′ : ℕ → Bool} (a : IsBest S f) (b : IsBest scored f′) (gone : S .present k ≡ false) where
     lacks-k : {g : ℕ → Bool} → Chain S g → T (not (g k))
     lacks-k {g} c = not-T (g k) (λ t. subst T gone (c .present k t))
@@ -177,14 +177,18 @@ module _ {S S′ : Seeds} {f f′ : ℕ → Bool} (a : IsBest S f) (b : IsBest S
 
   -- Lowering it by d lowers the total by no more than d and never raises it.
   pub lowered : (d : ℕ) → S′ ≡ seedsScored S k (S .score k -ℤ pos d) → ((total S f -ℤ pos d) ≤ℤ total S′ f′) × (total S′ f′ ≤ℤ total S f)
-  lowered d e =
-      let z = S .score k in
-      let back : (z -ℤ pos d) +ℤ pos d ≡ z = +ℤ-assoc z (negℤ (pos d)) (pos d) ∙ ap (λ (x : ℤ). z +ℤ x) (+ℤ-invl (pos d)) ∙ +ℤ-idr z in
-      let m =
-      subst (λ (X : Seeds). IsBest X f′ → (total X f′ ≤ℤ total S f) × (total S f ≤ℤ (total X f′ +ℤ pos d))) (sym e)
-      (λ c. best-between (seedsScored S k (z -ℤ pos d)) k (S .score) (λ i ne. sym (off-k k i _ _ ne)) d (sym (ap (λ (x : ℤ). x +ℤ pos d) (at-k k _ _) ∙ back)) c a) b
-      in
-      (le-minus (total S f) (total S′ f′) (pos d) (m .1), m .0)
+  lowered d e = (le-minus (total S f) (total S′ f′) (pos d) (between .1), between .0)
+    where
+      z : ℤ
+      z = S .score k
+
+      back : (z -ℤ pos d) +ℤ pos d ≡ z
+      back = +ℤ-assoc z (negℤ (pos d)) (pos d) ∙ ap (λ (x : ℤ). z +ℤ x) (+ℤ-invl (pos d)) ∙ +ℤ-idr z
+
+      between : (total S′ f′ ≤ℤ total S f) × (total S f ≤ℤ (total S′ f′ +ℤ pos d))
+      between =
+          subst (λ (X : Seeds). IsBest X f′ → (total X f′ ≤ℤ total S f) × (total S f ≤ℤ (total X f′ +ℤ pos d))) (sym e)
+          (λ c. best-between (seedsScored S k (z -ℤ pos d)) k (S .score) (λ i ne. sym (off-k k i _ _ ne)) d (sym (ap (λ (x : ℤ). x +ℤ pos d) (at-k k _ _) ∙ back)) c a) b
 
   -- Any score of a withdrawn seed leaves it.
   pub absent-scored : (z : ℤ) → S′ ≡ seedsScored S k z → S .present k ≡ false → total S′ f′ ≡ total S f
@@ -194,12 +198,12 @@ module _ {S S′ : Seeds} {f f′ : ℕ → Bool} (a : IsBest S f) (b : IsBest S
 
   -- Withdrawing a seed of score s lowers the total by no more than the greater of s and 0, and never raises it.
   pub withdrawn : S′ ≡ seedsMarked S k false → ((total S f -ℤ greaterOf (S .score k) (pos 0)) ≤ℤ total S′ f′) × (total S′ f′ ≤ℤ total S f)
-  withdrawn e =
-      let m =
-      subst (λ (X : Seeds). IsBest X f′ → (total X f′ ≤ℤ total S f) × (total S f ≤ℤ (total X f′ +ℤ greaterOf (S .score k) (pos 0)))) (sym e)
-      (λ c. best-without S k _ (λ i. off-k k i _ _) (at-k k _ _) a c) b
-      in
-      (le-minus (total S f) (total S′ f′) (greaterOf (S .score k) (pos 0)) (m .1), m .0)
+  withdrawn e = (le-minus (total S f) (total S′ f′) (greaterOf (S .score k) (pos 0)) (between .1), between .0)
+    where
+      between : (total S′ f′ ≤ℤ total S f) × (total S f ≤ℤ (total S′ f′ +ℤ greaterOf (S .score k) (pos 0)))
+      between =
+          subst (λ (X : Seeds). IsBest X f′ → (total X f′ ≤ℤ total S f) × (total S f ≤ℤ (total X f′ +ℤ greaterOf (S .score k) (pos 0)))) (sym e)
+          (λ c. best-without S k _ (λ i. off-k k i _ _) (at-k k _ _) a c) b
 
   -- Bringing it back raises the total by no less than 0 and no more than that.
   pub brought-back : S′ ≡ seedsMarked S k true → S .present k ≡ false → (total S f ≤ℤ total S′ f′) × (total S′ f′ ≤ℤ (total S f +ℤ greaterOf (S .score k) (pos 0)))

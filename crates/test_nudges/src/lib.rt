@@ -15,6 +15,7 @@ use nudge::most_down;
 use nudge::most_up;
 use nudge::points_after;
 use nudge::score_of;
+use nudge::way_of;
 use test_brute::nodes::nodes_of;
 use test_brute::seeds::Trees;
 use test_random::draw;
@@ -24,12 +25,14 @@ use test_random::samples::structure;
 use test_sessions::other;
 use test_sessions::play::added;
 use test_words::answers::ground_of;
+use test_words::plain::more;
 use test_words::plain::part;
 ghost use Rattle.chain.specs.View.{Sound};
 
-// A session, the points of its seeds by number, and what is counted.
+// A session, how many seeds it has, their points by number, and what is counted.
 struct Play {
     session: Session,
+    seeds: usize,
     points: [usize; 10],
     moves: Moves,
 }
@@ -80,7 +83,11 @@ fn add(p: Play, trees: Trees, state: &mut u64) -> Play
     let points = 2999995 + draw(state, 11) % 11;
     let r = added(session, qs, ts, q.count, score_of(points));
     let later = r.session;
-    with_points(with_session(p, later), r.number, points)
+    let mut next = with_points(with_session(p, later), r.number, points);
+    if 0 < r.number {
+        next.seeds = r.number;
+    }
+    next
 }
 
 fn adds(p: Play, trees: Trees, state: &mut u64) -> Play
@@ -203,7 +210,7 @@ fn nudged(p: Play, state: &mut u64) -> Play
 {
     let session = p.session;
     let moves = p.moves;
-    let number = draw(state, 10);
+    let number = draw(state, more(more(p.seeds)));
     let nudge = drawn(state);
     let points = points_of(p, number);
     let there = is_present(session, number);
@@ -217,7 +224,7 @@ fn nudged(p: Play, state: &mut u64) -> Play
         made.ground,
     );
     let mut next = with_made(p, number, points_after(points, nudge), made);
-    next.moves = with_move(moves, m, points < 3000000, made.ground);
+    next.moves = with_move(moves, m, way_of(nudge), points < 3000000, made.ground);
     next
 }
 
@@ -241,6 +248,7 @@ fn on_texts(q: &[u8], t: &[u8], state: &mut u64, moves: Moves) -> Moves {
     let session = opened.session;
     let start = Play {
         session,
+        seeds: 0,
         points: [0; 10],
         moves,
     };

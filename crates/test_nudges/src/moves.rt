@@ -7,21 +7,22 @@ use test_random::tally::with_count;
 use test_words::blank;
 use test_words::plain::more;
 use test_words::print;
+use test_words::with_bytes;
 
-// The calls of nudges, and of those accepted how many moved the total by as much as it may move, how many left it where it might have moved,
-// and how many were of a score below 0.
+// The calls of nudges, and of those accepted how many moved the total as far as it may move and how many left it where it might have moved,
+// each for scores raised and lowered and for seeds withdrawn and brought back; and how many were of a score below 0.
 pub struct Moves {
     pub count: Count,
-    pub reached: usize,
-    pub unmoved: usize,
+    pub reached: [usize; 4],
+    pub unmoved: [usize; 4],
     pub negative: usize,
 }
 
 pub fn no_moves() -> Moves {
     Moves {
         count: none(),
-        reached: 0,
-        unmoved: 0,
+        reached: [0; 4],
+        unmoved: [0; 4],
         negative: 0,
     }
 }
@@ -62,29 +63,43 @@ fn one_if(n: usize, there: bool) -> usize {
     if there { more(n) } else { n }
 }
 
-// One nudge more, refused on this ground or, if it is 0, accepted.
-pub fn with_move(all: Moves, m: Move, below_zero: bool, ground: usize) -> Moves {
+// One more of a way, if there is.
+fn with_way(counts: [usize; 4], way: usize, there: bool) -> [usize; 4] {
+    let mut next = counts;
+    if way < 4 {
+        let before = counts[way];
+        next[way] = one_if(before, there);
+    }
+    next
+}
+
+// One nudge more of a way, refused on this ground or, if it is 0, accepted.
+pub fn with_move(all: Moves, m: Move, way: usize, below_zero: bool, ground: usize) -> Moves {
     let count = all.count;
+    let reached = all.reached;
+    let unmoved = all.unmoved;
     let accepted = ground == 0;
     Moves {
         count: counted(count, ground, is_within(m)),
-        reached: one_if(all.reached, is_reached(m)),
-        unmoved: one_if(all.unmoved, is_unmoved(m)),
+        reached: with_way(reached, way, is_reached(m)),
+        unmoved: with_way(unmoved, way, is_unmoved(m)),
         negative: one_if(all.negative, accepted && below_zero),
     }
 }
 
-// A line with what was counted of the totals.
+// A line of what was counted by the way.
+fn print_ways(what: &[u8], counts: [usize; 4]) {
+    let raised = with_count(with_bytes(blank(), what), counts[0], b" raised, ");
+    let lowered = with_count(raised, counts[1], b" lowered, ");
+    let withdrawn = with_count(lowered, counts[2], b" withdrawn, ");
+    print(with_count(withdrawn, counts[3], b" brought back\n"));
+}
+
+// Lines with what was counted of the totals.
 pub fn print_moves(all: Moves) {
-    let reached = with_count(
-        blank(),
-        all.reached,
-        b" moved the total as far as it may move, ",
-    );
-    let unmoved = with_count(
-        reached,
-        all.unmoved,
-        b" left it where it might have moved, ",
-    );
-    print(with_count(unmoved, all.negative, b" accepted of a score below 0\n"));
+    let reached = all.reached;
+    let unmoved = all.unmoved;
+    print_ways(b"moved as far as may be: ", reached);
+    print_ways(b"left where it might have moved: ", unmoved);
+    print(with_count(blank(), all.negative, b" accepted of a score below 0\n"));
 }

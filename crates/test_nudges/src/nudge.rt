@@ -13,6 +13,16 @@ pub enum Nudge {
     BringBack,
 }
 
+// Which of the four it is.
+pub fn way_of(nudge: Nudge) -> usize {
+    match nudge {
+        Nudge::Raise(_) => 0,
+        Nudge::Lower(_) => 1,
+        Nudge::Withdraw => 2,
+        Nudge::BringBack => 3,
+    }
+}
+
 // The score that so many points are.
 pub fn score_of(points: usize) -> i32 {
     if points < 3000000 {
