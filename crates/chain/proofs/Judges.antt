@@ -23,6 +23,7 @@ pub beq-false : (b : Bool) → not b ≡ Bool·beq false b
 beq-false true = refl
 beq-false false = refl
 
+-- Two that are not alike are opposite.
 beq-other : (a b : Bool) → Bool·beq a b ≡ false → a ≡ not b
 beq-other true true e = e
 beq-other true false e = refl

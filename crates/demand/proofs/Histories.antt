@@ -45,6 +45,7 @@ either-same : {A : Type 0} (b : Bool) (x y : A) → x ≡ y → cond b x y ≡ y
 either-same true x y e = e
 either-same false x y e = refl
 
+-- In a history a call that hands over no session leaves the state as it was.
 pub looked-still : {s : Session} {act : Act} {a : Answer} → Looked s act a → (start : State) (h : List Event) → stateOf start (event act a ∷ h) ≡ stateOf start h
 unfolding stateOf
 looked-still {s} {act} {a} l start h = either-same (isAccepted a) (after act (stateOf start h)) (stateOf start h) (still l (stateOf start h))

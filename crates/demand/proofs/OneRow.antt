@@ -10,7 +10,7 @@ use lib.Seq.{getD-set-same, getD-set-other}
 use lib.Dec.{eqb, eqb→eq}
 use Rattle.seed.specs.Chain.{Chainable}
 use Rattle.table.specs.Rows.{Row, noRow, rowIn, rowOf, withRow, withScore, withPresence}
-use Rattle.optimum.specs.OneSeed.{seedsScored, seedsMarked}
+use Rattle.optimum.specs.OneSeed.{seedsWithScore, seedsWithPresence}
 use Rattle.optimum.proofs.Booleans.{Is, yes, no, is, T-eq, T-neq, not-eqb}
 use Rattle.best.specs.Best.{seedsOf}
 use Rattle.chain.proofs.Judges.{Given}
@@ -34,9 +34,9 @@ module _ (Q T : List ℕ) (rows : List Row) (k : ℕ) (n : Given (length rows) k
   place : k - 1 < length rows
   place = omega (arith, n)
 
-  pub seeds-scored : (z : ℤ) → seedsOf Q T (withRow rows k (withScore (rowOf rows k) z)) ≡ seedsScored (seedsOf Q T rows) (k - 1) z
+  pub seeds-with-score : (z : ℤ) → seedsOf Q T (withRow rows k (withScore (rowOf rows k) z)) ≡ seedsWithScore (seedsOf Q T rows) (k - 1) z
   unfolding rowOf withRow
-  seeds-scored z =
+  seeds-with-score z =
       let row = withScore (rowIn rows (k - 1)) z in
       λ j. record {
         count = length-set rows (k - 1) row j;
@@ -45,9 +45,9 @@ module _ (Q T : List ℕ) (rows : List Row) (k : ℕ) (n : Given (length rows) k
         Chainable = λ x y. Chainable Q T (part-kept rows (k - 1) place row (λ r. r .pairs) refl x j) (part-kept rows (k - 1) place row (λ r. r .pairs) refl y j);
       }
 
-  pub seeds-marked : (to : Bool) → seedsOf Q T (withRow rows k (withPresence (rowOf rows k) to)) ≡ seedsMarked (seedsOf Q T rows) (k - 1) to
+  pub seeds-with-presence : (to : Bool) → seedsOf Q T (withRow rows k (withPresence (rowOf rows k) to)) ≡ seedsWithPresence (seedsOf Q T rows) (k - 1) to
   unfolding rowOf withRow
-  seeds-marked to =
+  seeds-with-presence to =
       let row = withPresence (rowIn rows (k - 1)) to in
       λ j. record {
         count = length-set rows (k - 1) row j;

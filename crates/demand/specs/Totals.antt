@@ -19,19 +19,19 @@ pub data TotalBy (o : Outcome) (h : List Event) : ℕ → Type 0 where
   asked : {s : Session} {before after : List ℕ} {r : Best} → Reached o s h → Chains (view s) before after r → r .answer ≡ Accepted → TotalBy o h (r .total)
 
 -- A history goes on from h by calls that move no seed and no score: each leaves the rows as they were.
-pub data QuietSince (start : State) (h : List Event) : List Event → Type 0 where
-  at-once : QuietSince start h h
-  and-one : {later : List Event} {e : Event} → QuietSince start h later → stateOf start (e ∷ later) .rows ≡ stateOf start later .rows → QuietSince start h (e ∷ later)
+pub data UnmovedSince (start : State) (h : List Event) : List Event → Type 0 where
+  at-once : UnmovedSince start h h
+  and-one : {later : List Event} {e : Event} → UnmovedSince start h later → stateOf start (e ∷ later) .rows ≡ stateOf start later .rows → UnmovedSince start h (e ∷ later)
 
--- Best chain was asked, and asked again: in between one call was accepted, at the end of the history h, and all others, best chain among them,
--- moved no seed and no score.
+-- Best chain was asked, and asked again: in between one call was accepted, after the history h, and all others, best chain among them, moved no
+-- seed and no score.
 pub record AskedAround (o : Outcome) (h : List Event) (act : Act) (total total′ : ℕ) : Type 0 where
-  pub first : List Event
-  pub last : List Event
-  pub total-before : TotalBy o first total
-  pub quiet-before : QuietSince (o .state) first h
-  pub quiet-after : QuietSince (o .state) (event act Accepted ∷ h) last
-  pub total-after : TotalBy o last total′
+  pub history-before : List Event
+  pub history-after : List Event
+  pub total-before : TotalBy o history-before total
+  pub unmoved-before : UnmovedSince (o .state) history-before h
+  pub unmoved-after : UnmovedSince (o .state) (event act Accepted ∷ h) history-after
+  pub total-after : TotalBy o history-after total′
 
 -- The row of number k by the history.
 abbrev pub rowBy : Outcome → List Event → ℕ → Row

@@ -2,12 +2,12 @@
 use mathlib.Core.Path.{_≡_, refl, sym, ap, subst, _∙_}
 use mathlib.Core.Bool.{Bool, true, false, not, cond, _&&_, _||_}
 use Prim.Native.Nat.{ℕ, zero, suc, _<_}
-use lib.IntN.{ℤ, pos, negℤ, _+ℤ_, _-ℤ_, +ℤ-assoc, +ℤ-comm, +ℤ-idr, +ℤ-invl}
+use lib.IntN.{ℤ, pos, _+ℤ_, _-ℤ_, +ℤ-comm, +ℤ-idr, -ℤ-+ℤ-cancel}
 use lib.Dec.{T, T-not, not-T, eqb, eqb→eq, eqb-refl}
 use lib.Signed.{_≤ℤ_, ltZ, ltZ-no, ≤ℤ-refl}
 use Rattle.optimum.specs.Chain.{Seeds, Chain, totalOf, total, IsBest}
 use Rattle.optimum.specs.Key.{Key, _⊕_, seedKey}
-use Rattle.optimum.specs.OneSeed.{seedsScored, seedsMarked, greaterOf}
+use Rattle.optimum.specs.OneSeed.{seedsWithScore, seedsWithPresence, greaterOf}
 use Rattle.optimum.proofs.Booleans.{Is, yes, no, is, T-eq, T-neq, T-ext, and-i, and-l, and-r, or-l, or-r, or-e, eqb-not, not-eqb}
 use Rattle.optimum.proofs.WholeNumbers.{lt-gap, gap-le, le-antisym, le-trans, swap-last, le-plus, le-add, le-minus}
 use Rattle.optimum.proofs.Chains.{value-cong}
@@ -26,32 +26,32 @@ total-cong a b g (suc n) h = go (g n) (h n) (total-cong a b g n h)
     go false e lower = lower
 
 -- The set without the number k.
-abbrev without : (ℕ → Bool) → ℕ → ℕ → Bool
-without g k i = not (eqb k i) && g i
+abbrev all-but : (ℕ → Bool) → ℕ → ℕ → Bool
+all-but g k i = not (eqb k i) && g i
 
-without-other : (g : ℕ → Bool) (k i : ℕ) → T (without g k i) → k ≡ i → ⊥
-without-other g k i t = not-eqb k i (and-l (not (eqb k i)) (g i) t)
+all-but-other : (g : ℕ → Bool) (k i : ℕ) → T (all-but g k i) → k ≡ i → ⊥
+all-but-other g k i t = not-eqb k i (and-l (not (eqb k i)) (g i) t)
 
 -- The score of a number in the set stands apart from the total of the others.
-total-split : (score : ℕ → ℤ) (g : ℕ → Bool) (k n : ℕ) → T (g k) → k < n → totalOf score g n ≡ score k +ℤ totalOf score (without g k) n
+total-split : (score : ℕ → ℤ) (g : ℕ → Bool) (k n : ℕ) → T (g k) → k < n → totalOf score g n ≡ score k +ℤ totalOf score (all-but g k) n
 unfolding _⊕_
 total-split score g k n t b =
     sym (value-total score g n)
-    ∙ ap (λ (x : Key). x .total) (value-cong (seedKey score) g (λ i. eqb k i || without g k i) n (λ i l. same i) ∙ value-insert (seedKey score) (without g k) k gone n b)
-    ∙ ap (λ (x : ℤ). score k +ℤ x) (value-total score (without g k) n)
+    ∙ ap (λ (x : Key). x .total) (value-cong (seedKey score) g (λ i. eqb k i || all-but g k i) n (λ i l. same i) ∙ value-insert (seedKey score) (all-but g k) k gone n b)
+    ∙ ap (λ (x : ℤ). score k +ℤ x) (value-total score (all-but g k) n)
   where
-    gone : T (not (without g k k))
-    gone = not-T (without g k k) (λ s. without-other g k k s refl)
+    gone : T (not (all-but g k k))
+    gone = not-T (all-but g k k) (λ s. all-but-other g k k s refl)
 
-    back : (i : ℕ) → T (eqb k i || without g k i) → T (g i)
-    back i = or-e (eqb k i) (without g k i) (λ e. subst (λ x. T (g x)) (eqb→eq k i e) t) (and-r (not (eqb k i)) (g i))
+    back : (i : ℕ) → T (eqb k i || all-but g k i) → T (g i)
+    back i = or-e (eqb k i) (all-but g k i) (λ e. subst (λ x. T (g x)) (eqb→eq k i e) t) (and-r (not (eqb k i)) (g i))
 
-    into : (i : ℕ) → Is (eqb k i) → T (g i) → T (eqb k i || without g k i)
-    into i (yes e) s = or-l (eqb k i) (without g k i) e
-    into i (no e) s = or-r (eqb k i) (without g k i) (and-i (not (eqb k i)) (g i) e s)
+    into : (i : ℕ) → Is (eqb k i) → T (g i) → T (eqb k i || all-but g k i)
+    into i (yes e) s = or-l (eqb k i) (all-but g k i) e
+    into i (no e) s = or-r (eqb k i) (all-but g k i) (and-i (not (eqb k i)) (g i) e s)
 
-    same : (i : ℕ) → g i ≡ (eqb k i || without g k i)
-    same i = T-ext (g i) (eqb k i || without g k i) (into i (is (eqb k i))) (back i)
+    same : (i : ℕ) → g i ≡ (eqb k i || all-but g k i)
+    same i = T-ext (g i) (eqb k i || all-but g k i) (into i (is (eqb k i))) (back i)
 
 -- ---- another score
 
@@ -85,9 +85,9 @@ module _ (S : Seeds) (k : ℕ) (score : ℕ → ℤ) (others : (i : ℕ) → (k 
     total-raised : (g : ℕ → Bool) → T (g k) → k < S .count → total scored g ≡ total S g +ℤ pos d
     total-raised g t b =
         total-split score g k (S .count) t b
-        ∙ ap (λ (x : ℤ). score k +ℤ x) (total-cong score (S .score) (without g k) (S .count) (λ i s. others i (without-other g k i s)))
-        ∙ ap (λ (x : ℤ). x +ℤ totalOf (S .score) (without g k) (S .count)) here
-        ∙ swap-last (S .score k) (pos d) (totalOf (S .score) (without g k) (S .count))
+        ∙ ap (λ (x : ℤ). score k +ℤ x) (total-cong score (S .score) (all-but g k) (S .count) (λ i s. others i (all-but-other g k i s)))
+        ∙ ap (λ (x : ℤ). x +ℤ totalOf (S .score) (all-but g k) (S .count)) here
+        ∙ swap-last (S .score k) (pos d) (totalOf (S .score) (all-but g k) (S .count))
         ∙ ap (λ (x : ℤ). x +ℤ pos d) (sym (total-split (S .score) g k (S .count) t b))
 
     total-between : (g : ℕ → Bool) → Chain S g → (total S g ≤ℤ total scored g) × (total scored g ≤ℤ (total S g +ℤ pos d))
@@ -126,38 +126,38 @@ greater-r a b = go (ltZ a b) ltZ-no
     go true h = ≤ℤ-refl b
     go false h = h tt
 
--- The best chain of some of the seeds, all but k.
+-- The best chain of the seeds of which k is withdrawn.
 module _ (S : Seeds) (k : ℕ) (present : ℕ → Bool) (others : (i : ℕ) → (k ≡ i → ⊥) → present i ≡ S .present i) (gone : present k ≡ false) where
-  abbrev some : Seeds
-  some = record { count = S .count; present = present; score = S .score; Chainable = S .Chainable }
+  abbrev lacking : Seeds
+  lacking = record { count = S .count; present = present; score = S .score; Chainable = S .Chainable }
 
-  from-some : {g : ℕ → Bool} → Chain some g → Chain S g
-  from-some {g} c = record { given = c .given; present = λ i t. subst T (others i (other i t)) (c .present i t); chainable = c .chainable }
+  from-lacking : {g : ℕ → Bool} → Chain lacking g → Chain S g
+  from-lacking {g} c = record { given = c .given; present = λ i t. subst T (others i (other i t)) (c .present i t); chainable = c .chainable }
     where
       other : (i : ℕ) → T (g i) → k ≡ i → ⊥
       other i t e = subst T gone (subst (λ x. T (present x)) (sym e) (c .present i t))
 
-  to-some : {g : ℕ → Bool} → Chain S g → ((i : ℕ) → T (g i) → k ≡ i → ⊥) → Chain some g
-  to-some c other = record { given = c .given; present = λ i t. subst T (sym (others i (other i t))) (c .present i t); chainable = c .chainable }
+  to-lacking : {g : ℕ → Bool} → Chain S g → ((i : ℕ) → T (g i) → k ≡ i → ⊥) → Chain lacking g
+  to-lacking c other = record { given = c .given; present = λ i t. subst T (sym (others i (other i t))) (c .present i t); chainable = c .chainable }
 
   -- A chain stays one without k.
-  shortened : {g : ℕ → Bool} → Chain S g → Chain some (without g k)
+  shortened : {g : ℕ → Bool} → Chain S g → Chain lacking (all-but g k)
   shortened {g} c =
-      let in-g : (i : ℕ) → T (without g k i) → T (g i) = λ i. and-r (not (eqb k i)) (g i) in
-      to-some
+      let in-g : (i : ℕ) → T (all-but g k i) → T (g i) = λ i. and-r (not (eqb k i)) (g i) in
+      to-lacking
       (record { given = λ i t. c .given i (in-g i t); present = λ i t. c .present i (in-g i t); chainable = λ i j s t. c .chainable i j (in-g i s) (in-g j t) })
-      (without-other g k)
+      (all-but-other g k)
 
-  best-without : {f f′ : ℕ → Bool} → IsBest S f → IsBest some f′ → (total some f′ ≤ℤ total S f) × (total S f ≤ℤ (total some f′ +ℤ greaterOf (S .score k) (pos 0)))
-  best-without {f} {f′} a b = (a .greatest f′ (from-some (b .chain)), go (is (f k)))
+  best-without : {f f′ : ℕ → Bool} → IsBest S f → IsBest lacking f′ → (total lacking f′ ≤ℤ total S f) × (total S f ≤ℤ (total lacking f′ +ℤ greaterOf (S .score k) (pos 0)))
+  best-without {f} {f′} a b = (a .greatest f′ (from-lacking (b .chain)), go (is (f k)))
     where
-      go : Is (f k) → total S f ≤ℤ (total some f′ +ℤ greaterOf (S .score k) (pos 0))
+      go : Is (f k) → total S f ≤ℤ (total lacking f′ +ℤ greaterOf (S .score k) (pos 0))
       go (yes t) =
-          rw (total-split (S .score) f k (S .count) t (a .chain .given k t) ∙ +ℤ-comm (S .score k) (total S (without f k)))
-          (le-add (total S (without f k)) (total some f′) (S .score k) (greaterOf (S .score k) (pos 0)) (b .greatest (without f k) (shortened (a .chain))) (greater-l (S .score k) (pos 0)))
+          rw (total-split (S .score) f k (S .count) t (a .chain .given k t) ∙ +ℤ-comm (S .score k) (total S (all-but f k)))
+          (le-add (total S (all-but f k)) (total lacking f′) (S .score k) (greaterOf (S .score k) (pos 0)) (b .greatest (all-but f k) (shortened (a .chain))) (greater-l (S .score k) (pos 0)))
       go (no t) =
           rw (← (+ℤ-idr (total S f)))
-          (le-add (total S f) (total some f′) (pos 0) (greaterOf (S .score k) (pos 0)) (b .greatest f (to-some (a .chain) (λ i s e. T-not (f k) t (subst (λ x. T (f x)) (sym e) s)))) (greater-r (S .score k) (pos 0)))
+          (le-add (total S f) (total lacking f′) (pos 0) (greaterOf (S .score k) (pos 0)) (b .greatest f (to-lacking (a .chain) (λ i s e. T-not (f k) t (subst (λ x. T (f x)) (sym e) s)))) (greater-r (S .score k) (pos 0)))
 
 -- ---- how far the best total moves
 
@@ -170,34 +170,28 @@ off-k k i x y ne = rw (T-neq {b = eqb k i} (eqb-not k i ne))
 -- The best chains f of the seeds S, and f′ of the seeds S′, which are S with another score or another presence for number k.
 module _ {S S′ : Seeds} {f f′ : ℕ → Bool} (a : IsBest S f) (b : IsBest S′ f′) (k : ℕ) where
   -- Raising the score by d raises the total by no less than 0 and no more than d.
-  pub raised : (d : ℕ) → S′ ≡ seedsScored S k (S .score k +ℤ pos d) → (total S f ≤ℤ total S′ f′) × (total S′ f′ ≤ℤ (total S f +ℤ pos d))
+  pub raised : (d : ℕ) → S′ ≡ seedsWithScore S k (S .score k +ℤ pos d) → (total S f ≤ℤ total S′ f′) × (total S′ f′ ≤ℤ (total S f +ℤ pos d))
   raised d e =
       subst (λ (X : Seeds). IsBest X f′ → (total S f ≤ℤ total X f′) × (total X f′ ≤ℤ (total S f +ℤ pos d))) (sym e)
       (λ c. best-between S k _ (λ i. off-k k i _ _) d (at-k k _ _) a c) b
 
   -- Lowering it by d lowers the total by no more than d and never raises it.
-  pub lowered : (d : ℕ) → S′ ≡ seedsScored S k (S .score k -ℤ pos d) → ((total S f -ℤ pos d) ≤ℤ total S′ f′) × (total S′ f′ ≤ℤ total S f)
+  pub lowered : (d : ℕ) → S′ ≡ seedsWithScore S k (S .score k -ℤ pos d) → ((total S f -ℤ pos d) ≤ℤ total S′ f′) × (total S′ f′ ≤ℤ total S f)
   lowered d e = (le-minus (total S f) (total S′ f′) (pos d) (between .1), between .0)
     where
-      z : ℤ
-      z = S .score k
-
-      back : (z -ℤ pos d) +ℤ pos d ≡ z
-      back = +ℤ-assoc z (negℤ (pos d)) (pos d) ∙ ap (λ (x : ℤ). z +ℤ x) (+ℤ-invl (pos d)) ∙ +ℤ-idr z
-
       between : (total S′ f′ ≤ℤ total S f) × (total S f ≤ℤ (total S′ f′ +ℤ pos d))
       between =
           subst (λ (X : Seeds). IsBest X f′ → (total X f′ ≤ℤ total S f) × (total S f ≤ℤ (total X f′ +ℤ pos d))) (sym e)
-          (λ c. best-between (seedsScored S k (z -ℤ pos d)) k (S .score) (λ i ne. sym (off-k k i _ _ ne)) d (sym (ap (λ (x : ℤ). x +ℤ pos d) (at-k k _ _) ∙ back)) c a) b
+          (λ c. best-between (seedsWithScore S k (S .score k -ℤ pos d)) k (S .score) (λ i ne. sym (off-k k i _ _ ne)) d (sym (ap (λ (x : ℤ). x +ℤ pos d) (at-k k _ _) ∙ -ℤ-+ℤ-cancel (S .score k) (pos d))) c a) b
 
   -- Any score of a withdrawn seed leaves it.
-  pub absent-scored : (z : ℤ) → S′ ≡ seedsScored S k z → S .present k ≡ false → total S′ f′ ≡ total S f
+  pub absent-scored : (z : ℤ) → S′ ≡ seedsWithScore S k z → S .present k ≡ false → total S′ f′ ≡ total S f
   absent-scored z e gone =
       subst (λ (X : Seeds). IsBest X f′ → total X f′ ≡ total S f) (sym e)
       (λ c. best-same S k _ (λ i. off-k k i _ _) a c gone) b
 
   -- Withdrawing a seed of score s lowers the total by no more than the greater of s and 0, and never raises it.
-  pub withdrawn : S′ ≡ seedsMarked S k false → ((total S f -ℤ greaterOf (S .score k) (pos 0)) ≤ℤ total S′ f′) × (total S′ f′ ≤ℤ total S f)
+  pub withdrawn : S′ ≡ seedsWithPresence S k false → ((total S f -ℤ greaterOf (S .score k) (pos 0)) ≤ℤ total S′ f′) × (total S′ f′ ≤ℤ total S f)
   withdrawn e = (le-minus (total S f) (total S′ f′) (greaterOf (S .score k) (pos 0)) (between .1), between .0)
     where
       between : (total S′ f′ ≤ℤ total S f) × (total S f ≤ℤ (total S′ f′ +ℤ greaterOf (S .score k) (pos 0)))
@@ -206,7 +200,7 @@ module _ {S S′ : Seeds} {f f′ : ℕ → Bool} (a : IsBest S f) (b : IsBest S
           (λ c. best-without S k _ (λ i. off-k k i _ _) (at-k k _ _) a c) b
 
   -- Bringing it back raises the total by no less than 0 and no more than that.
-  pub brought-back : S′ ≡ seedsMarked S k true → S .present k ≡ false → (total S f ≤ℤ total S′ f′) × (total S′ f′ ≤ℤ (total S f +ℤ greaterOf (S .score k) (pos 0)))
+  pub brought-back : S′ ≡ seedsWithPresence S k true → S .present k ≡ false → (total S f ≤ℤ total S′ f′) × (total S′ f′ ≤ℤ (total S f +ℤ greaterOf (S .score k) (pos 0)))
   brought-back e gone =
       subst (λ (X : Seeds). IsBest X f′ → (total S f ≤ℤ total X f′) × (total X f′ ≤ℤ (total S f +ℤ greaterOf (S .score k) (pos 0)))) (sym e)
-      (λ c. best-without (seedsMarked S k true) k (S .present) (λ i ne. sym (off-k k i _ _ ne)) gone c a) b
+      (λ c. best-without (seedsWithPresence S k true) k (S .present) (λ i ne. sym (off-k k i _ _ ne)) gone c a) b

@@ -4,7 +4,7 @@ use mathlib.Core.Bool.{not}
 use Prim.Native.Nat.{ℕ, zero, suc, _+_, _-_, _≤_, _<_}
 use native.Mathlib.Omega.{arith}
 use native.Mathlib.Nat.{le-antisymm}
-use lib.IntN.{ℤ, pos, negsuc, subℕ, _+ℤ_, _-ℤ_, negℤ, +ℤ-assoc, +ℤ-comm, +ℤ-idl, +ℤ-idr, +ℤ-invl, +ℤ-invr}
+use lib.IntN.{ℤ, pos, negsuc, subℕ, _+ℤ_, _-ℤ_, negℤ, +ℤ-assoc, +ℤ-comm, +ℤ-idl, +ℤ-idr, +ℤ-invl, +ℤ-negℤ-cancel}
 use lib.Dec.{T, ltb, ltb→lt, lt→ltb, nltb→le}
 use lib.Signed.{ltZ, _≤ℤ_, ltZ-yes, ltZ-no, ≤ℤ-refl, clashℤ}
 use Rattle.optimum.proofs.Booleans.{Is, yes, no, is, T-eq, T-neq}
@@ -59,7 +59,7 @@ le-antisym a b h k = go (is (ltZ a b)) (is (ltZ b a))
     go (no t) (yes s) = clashℤ (ltZ-yes s) h
     go (no t) (no s) = lt-not a b t s
 
-pub le-gap : (a b : ℤ) → a ≤ℤ b → (n : ℕ) × (a +ℤ pos n ≡ b)
+le-gap : (a b : ℤ) → a ≤ℤ b → (n : ℕ) × (a +ℤ pos n ≡ b)
 le-gap a b h = go (is (ltZ a b)) (is (ltZ b a))
   where
     go : Is (ltZ a b) → Is (ltZ b a) → (n : ℕ) × (a +ℤ pos n ≡ b)
@@ -84,4 +84,4 @@ le-add a b c d h k = le-trans (a +ℤ c) (b +ℤ c) (b +ℤ d) (le-plus a b c h)
 
 -- What is added on one side may be taken away on the other.
 pub le-minus : (a b c : ℤ) → a ≤ℤ (b +ℤ c) → (a -ℤ c) ≤ℤ b
-le-minus a b c h = subst (λ (t : ℤ). (a -ℤ c) ≤ℤ t) (+ℤ-assoc b c (negℤ c) ∙ ap (λ (t : ℤ). b +ℤ t) (+ℤ-invr c) ∙ +ℤ-idr b) (le-plus a (b +ℤ c) (negℤ c) h)
+le-minus a b c h = subst (λ (t : ℤ). (a -ℤ c) ≤ℤ t) (+ℤ-negℤ-cancel b c) (le-plus a (b +ℤ c) (negℤ c) h)

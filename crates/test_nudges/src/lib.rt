@@ -9,11 +9,13 @@ use moves::Move;
 use moves::Moves;
 use moves::no_moves;
 use moves::with_move;
+use nudge::LIFT;
 use nudge::Nudge;
-use nudge::made;
+use nudge::called;
+use nudge::is_below_zero;
+use nudge::lifted_after;
 use nudge::most_down;
 use nudge::most_up;
-use nudge::points_after;
 use nudge::score_of;
 use nudge::way_of;
 use test_brute::nodes::nodes_of;
@@ -22,18 +24,20 @@ use test_random::draw;
 use test_random::lists::list;
 use test_random::samples::Sample;
 use test_random::samples::structure;
+use test_random::tally::print_sample;
 use test_sessions::other;
 use test_sessions::play::added;
 use test_words::answers::ground_of;
 use test_words::plain::more;
 use test_words::plain::part;
+use test_words::plain::plus;
 ghost use Rattle.chain.specs.View.{Sound};
 
-// A session, how many seeds it has, their points by number, and what is counted.
+// A session, how many seeds it has, their lifted scores by number, and what is counted.
 struct Play {
     session: Session,
     seeds: usize,
-    points: [usize; 10],
+    lifted: [usize; 10],
     moves: Moves,
 }
 
@@ -45,17 +49,17 @@ fn total_of(session: Session) -> usize
     best.total as usize
 }
 
-fn points_of(p: Play, number: usize) -> usize {
-    if number < 10 { p.points[number] } else { 0 }
+fn lifted_of(p: Play, number: usize) -> usize {
+    if number < 10 { p.lifted[number] } else { 0 }
 }
 
-fn with_points(p: Play, number: usize, points: usize) -> Play
+fn with_lifted(p: Play, number: usize, lifted: usize) -> Play
     requires { ⌜ Sound (p .session) ⌝ }
     ensures { λ r. ⌜ Sound (r .session) ⌝ }
 {
     let mut next = p;
     if number < 10 {
-        next.points[number] = points;
+        next.lifted[number] = lifted;
     }
     next
 }
@@ -80,10 +84,10 @@ fn add(p: Play, trees: Trees, state: &mut u64) -> Play
     let t = l.t;
     let qs = q.node;
     let ts = t.node;
-    let points = 2999995 + draw(state, 11) % 11;
-    let r = added(session, qs, ts, q.count, score_of(points));
+    let lifted = plus(LIFT - 5, draw(state, 11));
+    let r = added(session, qs, ts, q.count, score_of(lifted));
     let later = r.session;
-    let mut next = with_points(with_session(p, later), r.number, points);
+    let mut next = with_lifted(with_session(p, later), r.number, lifted);
     if 0 < r.number {
         next.seeds = r.number;
     }
@@ -102,7 +106,7 @@ fn adds(p: Play, trees: Trees, state: &mut u64) -> Play
 }
 
 // A call that moves no seed and no score stands between, or none: a number that is never given out, or a score out of range.
-fn quiet(session: Session, number: usize, state: &mut u64) -> Session
+fn between(session: Session, number: usize, state: &mut u64) -> Session
     requires { ⌜ Sound session ⌝ }
     ensures { λ r. ⌜ Sound r ⌝ }
 {
@@ -121,6 +125,7 @@ fn quiet(session: Session, number: usize, state: &mut u64) -> Session
 // A random nudge: by nothing, by a little, and by so much that the score may be out of range.
 fn drawn(state: &mut u64) -> Nudge {
     let steps = [0, 1, 2, 3, 4, 7, 100, 999997];
+    // The remainder once more, since no bound is promised of what is drawn.
     let by = steps[draw(state, 8) % 8];
     let way = draw(state, 6);
     if way < 2 {
@@ -135,22 +140,22 @@ fn drawn(state: &mut u64) -> Nudge {
     Nudge::BringBack
 }
 
-// A nudge of a seed, made between two calls for the total.
+// What a nudge answered and left, and the total after it.
 struct Made {
     session: Session,
     ground: usize,
     to: usize,
 }
 
-fn asked(session: Session, number: usize, points: usize, nudge: Nudge, state: &mut u64) -> Made
+fn asked(session: Session, number: usize, lifted: usize, nudge: Nudge, state: &mut u64) -> Made
     requires { ⌜ Sound session ⌝ }
     ensures { λ r. ⌜ Sound (r .session) ⌝ }
 {
-    let before = quiet(session, number, state);
-    let r = made(before, number, points, nudge);
+    let before = between(session, number, state);
+    let r = called(before, number, lifted, nudge);
     let answer = r.answer;
     let after = r.session;
-    let later = quiet(after, number, state);
+    let later = between(after, number, state);
     Made {
         session: later,
         ground: ground_of(answer),
@@ -172,7 +177,7 @@ fn move_of(
     to: usize,
     nudge: Nudge,
     present: bool,
-    points: usize,
+    lifted: usize,
     ground: usize,
 ) -> Move {
     if ground != 0 {
@@ -186,12 +191,12 @@ fn move_of(
     Move {
         from,
         to,
-        up: most_up(nudge, present, points),
-        down: most_down(nudge, present, points),
+        up: most_up(nudge, present, lifted),
+        down: most_down(nudge, present, lifted),
     }
 }
 
-fn with_made(p: Play, number: usize, points: usize, made: Made) -> Play
+fn with_made(p: Play, number: usize, lifted: usize, made: Made) -> Play
     requires { ⌜ Sound (made .session) ⌝ }
     ensures { λ r. ⌜ Sound (r .session) ⌝ }
 {
@@ -200,7 +205,7 @@ fn with_made(p: Play, number: usize, points: usize, made: Made) -> Play
     if made.ground != 0 {
         return next;
     }
-    with_points(next, number, points)
+    with_lifted(next, number, lifted)
 }
 
 // One random nudge of a seed, or of a number that is not given out.
@@ -212,19 +217,19 @@ fn nudged(p: Play, state: &mut u64) -> Play
     let moves = p.moves;
     let number = draw(state, more(more(p.seeds)));
     let nudge = drawn(state);
-    let points = points_of(p, number);
-    let there = is_present(session, number);
-    let made = asked(session, number, points, nudge, state);
+    let lifted = lifted_of(p, number);
+    let present = is_present(session, number);
+    let made = asked(session, number, lifted, nudge, state);
     let m = move_of(
         total_of(session),
         made.to,
         nudge,
-        there,
-        points,
+        present,
+        lifted,
         made.ground,
     );
-    let mut next = with_made(p, number, points_after(points, nudge), made);
-    next.moves = with_move(moves, m, way_of(nudge), points < 3000000, made.ground);
+    let mut next = with_made(p, number, lifted_after(lifted, nudge), made);
+    next.moves = with_move(moves, m, way_of(nudge), is_below_zero(lifted), made.ground);
     next
 }
 
@@ -249,7 +254,7 @@ fn on_texts(q: &[u8], t: &[u8], state: &mut u64, moves: Moves) -> Moves {
     let start = Play {
         session,
         seeds: 0,
-        points: [0; 10],
+        lifted: [0; 10],
         moves,
     };
     let p = all_nudged(adds(start, trees, state), state);
@@ -260,10 +265,18 @@ fn on_bytes(q: [u8; 12], n: usize, t: [u8; 12], m: usize, state: &mut u64, moves
     on_texts(part(&q, 0, n), part(&t, 0, m), state, moves)
 }
 
+// One random session: its two texts are printed if a total in it is wrong.
 fn one(q: Sample, t: Sample, state: &mut u64, moves: Moves) -> Moves {
+    let before = moves.count;
     let q_bytes = q.bytes;
     let t_bytes = t.bytes;
-    on_bytes(q_bytes, q.len, t_bytes, t.len, state, moves)
+    let next = on_bytes(q_bytes, q.len, t_bytes, t.len, state, moves);
+    let after = next.count;
+    if before.wrong < after.wrong {
+        print_sample(b"  in a session on ", q);
+        print_sample(b"  and ", t);
+    }
+    next
 }
 
 fn session(state: &mut u64, moves: Moves) -> Moves {

@@ -1,11 +1,12 @@
 // What nudges do to the best total, and what is counted of it.
-use super::nudge::sum;
 use test_random::tally::Count;
 use test_random::tally::counted;
+use test_random::tally::marked;
 use test_random::tally::none;
 use test_random::tally::with_count;
 use test_words::blank;
 use test_words::plain::more;
+use test_words::plain::plus;
 use test_words::print;
 use test_words::with_bytes;
 
@@ -36,10 +37,10 @@ pub struct Move {
 }
 
 fn is_within(m: Move) -> bool {
-    if sum(m.from, m.up) < m.to {
+    if plus(m.from, m.up) < m.to {
         return false;
     }
-    m.from <= sum(m.to, m.down)
+    m.from <= plus(m.to, m.down)
 }
 
 fn is_reached(m: Move) -> bool {
@@ -47,28 +48,28 @@ fn is_reached(m: Move) -> bool {
         return false;
     }
     if m.from < m.to {
-        return m.to == sum(m.from, m.up);
+        return m.to == plus(m.from, m.up);
     }
-    m.from == sum(m.to, m.down)
+    m.from == plus(m.to, m.down)
 }
 
 fn is_unmoved(m: Move) -> bool {
     if m.from != m.to {
         return false;
     }
-    0 < sum(m.up, m.down)
+    0 < plus(m.up, m.down)
 }
 
-fn one_if(n: usize, there: bool) -> usize {
-    if there { more(n) } else { n }
+fn one_if(n: usize, one: bool) -> usize {
+    if one { more(n) } else { n }
 }
 
-// One more of a way, if there is.
-fn with_way(counts: [usize; 4], way: usize, there: bool) -> [usize; 4] {
+// One more at this way, if it counts.
+fn with_way(counts: [usize; 4], way: usize, one: bool) -> [usize; 4] {
     let mut next = counts;
     if way < 4 {
         let before = counts[way];
-        next[way] = one_if(before, there);
+        next[way] = one_if(before, one);
     }
     next
 }
@@ -80,7 +81,7 @@ pub fn with_move(all: Moves, m: Move, way: usize, below_zero: bool, ground: usiz
     let unmoved = all.unmoved;
     let accepted = ground == 0;
     Moves {
-        count: counted(count, ground, is_within(m)),
+        count: marked(counted(count, ground, true), is_within(m), b"a total"),
         reached: with_way(reached, way, is_reached(m)),
         unmoved: with_way(unmoved, way, is_unmoved(m)),
         negative: one_if(all.negative, accepted && below_zero),

@@ -84,7 +84,7 @@ pub fn number_or(s: &[u8], at: usize, other: usize) -> usize {
     number(s, at)
 }
 
-// The number as a score, and below 0.
+// The number as a score, and the same below 0.
 pub fn positive(n: usize) -> i32 {
     if n < 2000000000 { n as i32 } else { 0 }
 }

