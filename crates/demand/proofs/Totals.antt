@@ -4,11 +4,13 @@ use mathlib.Core.Bool.{Bool, true, false}
 use mathlib.Core.List.{List, _∷_}
 use Prim.Native.Nat.{ℕ, _-_}
 use lib.IntN.{ℤ, pos, natAbs, _+ℤ_, _-ℤ_}
+use lib.ListN.{set}
+use lib.Seq.{set-getD}
 use lib.Signed.{_≤ℤ_}
 use Rattle.answer.specs.declared.Answer.{Answer}
-use Rattle.answer.specs.declared.Answer.the-variants.{Accepted}
+use Rattle.answer.specs.declared.Answer.the-variants.{Accepted, Refused}
 use Rattle.tree.specs.Reading.{leavesOf}
-use Rattle.table.specs.Rows.{rowOf}
+use Rattle.table.specs.Rows.{Row, noRow, rowIn, rowOf, withRow, withScore}
 use Rattle.optimum.specs.Chain.{Seeds, total, IsBest}
 use Rattle.optimum.specs.OneSeed.{seedsWithScore, seedsWithPresence, greaterOf}
 use Rattle.optimum.proofs.OneSeed.{raised, lowered, absent-scored, withdrawn, brought-back}
@@ -33,13 +35,22 @@ use Rattle.demand.proofs.OneRow.{seeds-with-score, seeds-with-presence}
 
 -- ---- calls that move no seed and no score
 
--- Those that hand over no session, and those that are refused.
+rows-scored-same : (rows : List Row) (k : ℕ) (z : ℤ) → rowOf rows k .score ≡ z → withRow rows k (withScore (rowOf rows k) z) ≡ rows
+unfolding rowOf withRow
+rows-scored-same rows k z e = ap (λ (w : ℤ). set rows (k - 1) (withScore (rowIn rows (k - 1)) w)) (sym e) ∙ set-getD rows (k - 1) noRow
+
+-- Those that hand over no session, those that are refused, and a rescoring to the score that the seed has.
 module _ {start : State} {h later : List Event} (q : UnmovedSince start h later) where
   pub unmoved-look : {s : Session} {act : Act} {a : Answer} → Looked s act a → UnmovedSince start h (event act a ∷ later)
   unmoved-look l = and-one q (ap (λ (x : State). x .rows) (looked-still l start later))
 
   pub unmoved-refusal : {act : Act} {a : Answer} → (a ≡ Accepted → ⊥) → UnmovedSince start h (event act a ∷ later)
   unmoved-refusal {act} {a} denied = and-one q (ap (λ (x : State). x .rows) (refused-still act a denied start later))
+
+  pub unmoved-rescoring : (k : ℕ) (z : ℤ) (a : Answer) → rowOf (stateOf start later .rows) k .score ≡ z → UnmovedSince start h (event (rescore k z) a ∷ later)
+  unfolding stateOf
+  unmoved-rescoring k z Accepted e = and-one q (rows-scored-same (stateOf start later .rows) k z e)
+  unmoved-rescoring k z (Refused g p) e = and-one q refl
 
 -- ---- the best total before and after a call
 

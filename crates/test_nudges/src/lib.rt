@@ -24,7 +24,7 @@ use test_random::draw;
 use test_random::lists::list;
 use test_random::samples::Sample;
 use test_random::samples::structure;
-use test_random::tally::print_sample;
+use test_random::tally::print_if_wrong;
 use test_sessions::other;
 use test_sessions::play::added;
 use test_words::answers::ground_of;
@@ -272,10 +272,7 @@ fn one(q: Sample, t: Sample, state: &mut u64, moves: Moves) -> Moves {
     let t_bytes = t.bytes;
     let next = on_bytes(q_bytes, q.len, t_bytes, t.len, state, moves);
     let after = next.count;
-    if before.wrong < after.wrong {
-        print_sample(b"  in a session on ", q);
-        print_sample(b"  and ", t);
-    }
+    print_if_wrong(before, after, q, t);
     next
 }
 

@@ -135,6 +135,14 @@ fn print_bytes(bytes: [u8; 12], n: usize) {
     io::write_all(1, part(&bytes, 0, n));
 }
 
+// The two texts of a session are printed if more is wrong after it than before.
+pub fn print_if_wrong(before: Count, after: Count, q: Sample, t: Sample) {
+    if before.wrong < after.wrong {
+        print_sample(b"  in a session on ", q);
+        print_sample(b"  and ", t);
+    }
+}
+
 pub fn print_sample(what: &[u8], sample: Sample) {
     let bytes = sample.bytes;
     io::write_all(1, what);

@@ -19,7 +19,7 @@ use test_random::tally::Counts;
 use test_random::tally::marked;
 use test_random::tally::none;
 use test_random::tally::nothing;
-use test_random::tally::print_sample;
+use test_random::tally::print_if_wrong;
 use test_words::plain::part;
 ghost use Rattle.chain.specs.View.{Sound};
 
@@ -107,10 +107,7 @@ fn one(q: Sample, t: Sample, state: &mut u64, counts: Counts) -> Counts {
     let t_bytes = t.bytes;
     let next = on_bytes(q_bytes, q.len, t_bytes, t.len, state, counts);
     let after = next.count;
-    if before.wrong < after.wrong {
-        print_sample(b"  in a session on ", q);
-        print_sample(b"  and ", t);
-    }
+    print_if_wrong(before, after, q, t);
     next
 }
 
