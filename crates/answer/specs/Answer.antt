@@ -9,7 +9,7 @@ use Rattle.answer.specs.declared.Answer.the-variants.{Accepted, Refused}
 
 -- The number of a ground.
 abbrev pub numberOf : Ground → ℕ
--- A text has length 0 or above 255.
+-- A text has length above 255 (document 02, f, where 01 had 0 too).
 numberOf TextLength = 1
 -- A byte is not dot, "(" or ")".
 numberOf UnknownByte = 2

@@ -7,6 +7,7 @@ use lib.ListN.{length}
 use Rattle.answer.specs.declared.Answer.the-variants.{Accepted}
 use Rattle.tree.specs.Reading.{leavesOf}
 use Rattle.tree.proofs.Trees.{tree-nested}
+use Rattle.seed.specs.Seed.{Seed}
 use Rattle.seed.specs.Area.{Areas}
 use Rattle.seed.proofs.Areas.{areas-are}
 use Rattle.area.specs.declared.Listed.{Listed}
@@ -25,11 +26,15 @@ use Rattle.demand.specs.Reached.{Reached}
 use Rattle.demand.specs.Demands.{ListsAreas}
 use Rattle.demand.proofs.Histories.{reached-sound, by-history}
 
-row-areas : (s : Session) → Sound s → (k : ℕ) → Given (length (rowsOf (s .table))) k → Areas (leavesOf (s .q)) (leavesOf (s .t)) (rowOf (rowsOf (s .table)) k .pairs) (areasOf (view s) k)
-unfolding rowOf areasOf
-row-areas s h k g =
-    let kept = h .kept in
-    areas-are (tree-nested (s .q) (kept .is-q)) (tree-nested (s .t) (kept .is-t)) _ (kept .each (k - 1) (omega (arith, g)) .seed)
+-- The row of a number that was given out is a seed, and these are its areas.
+module _ (s : Session) (h : Sound s) (k : ℕ) (g : Given (length (rowsOf (s .table))) k) where
+  pub row-seed : Seed (leavesOf (s .q)) (leavesOf (s .t)) (rowOf (rowsOf (s .table)) k .pairs)
+  unfolding rowOf
+  row-seed = h .kept .each (k - 1) (omega (arith, g)) .seed
+
+  pub row-areas : Areas (leavesOf (s .q)) (leavesOf (s .t)) (rowOf (rowsOf (s .table)) k .pairs) (areasOf (view s) k)
+  unfolding areasOf
+  row-areas = areas-are (tree-nested (s .q) (h .kept .is-q)) (tree-nested (s .t) (h .kept .is-t)) _ row-seed
 
 -- Of every session that a list of calls handed over.
 pub areas-by-history : {o : Outcome} {s : Session} {h : List Event} → Reached o s h

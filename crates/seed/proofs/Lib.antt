@@ -19,4 +19,5 @@ pub mod Convex
 pub mod Boxes
 pub mod BoxList
 pub mod Areas
+pub mod RootAlone
 pub mod Examples

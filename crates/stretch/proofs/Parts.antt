@@ -1,15 +1,20 @@
 -- What is handed back of a text, in the words of document 01: the part that spells the stretch, or the empty part at the text's start.
-use mathlib.Core.Path.{_≡_, ap, ap₂, _∙_}
+use mathlib.Core.Path.{_≡_, refl, ap, ap₂, _∙_}
+use mathlib.Core.Bool.{Bool, true, false, cond}
 use Prim.Native.Nat.{ℕ, _+_}
 use native.Mathlib.Omega.{arith}
 use mathlib.Core.List.{List, []}
+use lib.Dec.{leb}
 use denote.Ref.{RefT, now}
-use Rattle.answer.specs.declared.Answer.the-variants.{Accepted}
+use Rattle.answer.specs.declared.Ground.the-variants.{OutsideTree}
+use Rattle.answer.specs.declared.Place.the-variants.{Nothing}
+use Rattle.answer.specs.declared.Answer.the-variants.{Accepted, Refused}
+use Rattle.answer.proofs.Denied.{denies}
 use Rattle.tree.specs.Run.{Run, spell}
-use Rattle.tree.specs.Reading.{Reading, reading}
+use Rattle.tree.specs.Reading.{Reading, badLength, reading}
 use Rattle.tree.specs.Reading.Reading.{textAccepted}
 use Rattle.stretch.specs.Stretch.{Stretch, stretchIn, locatedBy, located, checkOf, spelled, part, partOf, HandsBack}
-use Rattle.stretch.specs.Stretch.Found.{at}
+use Rattle.stretch.specs.Stretch.Found.{at, nowhere}
 use Rattle.stretch.specs.declared.search.Located.{Located}
 use Rattle.stretch.proofs.Stretches.{stretches}
 use Rattle.stretch.proofs.Searches.{part-none}
@@ -31,3 +36,15 @@ module _ {text r : RefT (List ℕ)} {a b : ℕ} (w : HandsBack text a b r) where
   part-refused denied =
       let none = part-none (now text) a b denied in
       (w .spells ∙ none .0, ap₂ (λ (i : ℕ) (j : ℕ). (i, j)) (w .own) (omega (arith, w .lies, none .1)))
+
+-- The empty text has no stretch (document 02, f): whatever the two numbers are, they are refused on 15 without a place, and the empty part is handed back.
+pub empty-no-stretch : (a b : ℕ) → checkOf [] a b ≡ Refused OutsideTree Nothing
+unfolding checkOf reading badLength stretchIn
+empty-no-stretch a b = go (leb a b)
+  where
+    go : (t : Bool) → locatedBy (cond t nowhere nowhere) .answer ≡ Refused OutsideTree Nothing
+    go true = refl
+    go false = refl
+
+pub empty-part : {text r : RefT (List ℕ)} {a b : ℕ} → HandsBack text a b r → now text ≡ [] → (now r ≡ []) × (r .ptr ≡ text .ptr)
+empty-part {a = a} {b = b} w none = part-refused w (denies (ap (λ (s : List ℕ). checkOf s a b) none ∙ empty-no-stretch a b))

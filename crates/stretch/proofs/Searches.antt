@@ -109,9 +109,8 @@ module _ (s : List ℕ) (a b : ℕ) (l : Located) where
       -- A part that spells the nodes is read as such.
       reads-part : length s ≤ 255 → (w : Spelled s a b) → (x .answer ≡ Accepted) × (x .tree .n ≡ b - a + 2)
       reads-part short w =
-          let n : 0 < length (spell (w .run)) = omega (arith, size-spell (w .run), w .count) in
           let m : length (spell (w .run)) ≤ 255 = omega (arith, scan-at a b s c is w, scan-inside a b s c is) in
-          let f : x ≡ readOf (textAccepted (w .run)) = read ∙ ap readOf (ap reading (scan-part a b s c is w) ∙ read-accepts (w .run) (w .meant) (length-fits (length (spell (w .run))) n m)) in
+          let f : x ≡ readOf (textAccepted (w .run)) = read ∙ ap readOf (ap reading (scan-part a b s c is w) ∙ read-accepts (w .run) (w .meant) (length-fits (length (spell (w .run))) m)) in
           (ap (λ (k : TreeRead). k .answer) f, omega (arith, ap (λ (k : TreeRead). k .tree .n) f, w .count))
 
       pub search-unread : length s ≤ 255 → (x .answer ≡ Accepted → ⊥) → l ≡ locatedBy nowhere → LocatedRight s a b l

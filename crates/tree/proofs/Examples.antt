@@ -44,7 +44,7 @@ rows : List Row
 rows =
     row A accepted
     ∷ row B accepted
-    ∷ row [] (refused 1 (ByteInQ 0))
+    ∷ row [] accepted
     ∷ row (copies 255 46) accepted
     ∷ row (copies 256 46) (refused 1 (ByteInQ 0))
     ∷ row (copies 127 40 ++ 46 ∷ copies 127 41) accepted

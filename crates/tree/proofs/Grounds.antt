@@ -24,7 +24,7 @@ use Rattle.tree.specs.declared.character.Meaning.{Meaning}
 use Rattle.tree.specs.declared.character.Meaning.the-variants.{Opening, Closing}
 use Rattle.tree.proofs.Leaves.{lt-or-le}
 use Rattle.tree.proofs.FirstRefused.{refused-there, refused-first, refused-never, within, Clean, clean, clean-front}
-use Rattle.tree.proofs.Lengths.{length-some, length-few, length-fits, tells-length}
+use Rattle.tree.proofs.Lengths.{length-few, length-fits, tells-length}
 use Rattle.tree.proofs.Splits.{Stop, Splits, splits, begins, ended, after}
 use Rattle.tree.proofs.Splits.Stop.{none, open-at, bad-at}
 use Rattle.tree.proofs.Spelling.{read-spell, first-meant}
@@ -124,7 +124,7 @@ text-decides s = go (badLength (length s)) refl
         (known-decides s h)
         (lt-or-le (firstRefused s) (length s))
 
--- The text of every run that is not empty and not too long is accepted with that run.
+-- The text of every run that is not too long is accepted with that run.
 spell-known : (r : Run) → Meant r → length (spell r) ≤ firstRefused (spell r)
 spell-known r m = ⊎-elim
     (λ h. let w = refused-there (spell r) h in absurd (placed-clean (w .front) (w .byte) (w .back) (placed r m (w .front) (w .byte) (w .back) (w .split)) (w .unknown)))
@@ -158,6 +158,6 @@ module _ (s : List ℕ) (r : Run) (e : reading s ≡ textAccepted r) where
 
 pub accepted-exactly : (s : List ℕ) (r : Run) → (reading s ≡ textAccepted r) ↔ Spells r s
 accepted-exactly s r = (
-  λ e. let w = accepted-spell s r e in record { bytes = w .0; meant = w .1; some = length-some (length s) (w .2); few = length-few (length s) (w .2) },
-  λ w. ap reading (w .bytes) ∙ read-accepts r (w .meant) (subst (λ (l : List ℕ). badLength (length l) ≡ false) (w .bytes) (length-fits (length s) (w .some) (w .few))),
+  λ e. let w = accepted-spell s r e in record { bytes = w .0; meant = w .1; few = length-few (length s) (w .2) },
+  λ w. ap reading (w .bytes) ∙ read-accepts r (w .meant) (subst (λ (l : List ℕ). badLength (length l) ≡ false) (w .bytes) (length-fits (length s) (w .few))),
 )

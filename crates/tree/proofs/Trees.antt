@@ -2,33 +2,43 @@
 use mathlib.Core.Path.{_≡_, refl, sym, ap, subst, _∙_}
 use Prim.Native.Nat.{ℕ, _+_, _≤_}
 use native.Mathlib.Omega.{arith}
-use mathlib.Core.List.{List}
+use mathlib.Core.List.{List, [], _∷_}
 use lib.ListN.{length}
 use lib.Seq.{take-at}
 use Rattle.tree.specs.Run.{Run, spell, size, lefts}
 use Rattle.tree.specs.Run.Run.{end, dot, pair}
 use Rattle.tree.specs.Nested.{Nested}
-use Rattle.tree.specs.Reading.{Reading, reading, readOf, treeOf, single, leavesOf, IsTree}
+use Rattle.tree.specs.Node.{nodes, number}
+use Rattle.tree.specs.Node.Node.{root}
+use Rattle.tree.specs.Reading.{Reading, reading, readOf, badLength, treeOf, single, leavesOf, IsTree}
 use Rattle.tree.specs.Reading.Reading.{textAccepted, textRefused}
 use Rattle.tree.specs.declared.Tree.{Tree}
 use Rattle.tree.specs.declared.TreeRead.{TreeRead}
-use Rattle.tree.proofs.Lengths.{length-some, length-few}
+use Rattle.tree.proofs.Lengths.{length-few}
 use Rattle.tree.proofs.Leaves.{nested, length-all}
 use Rattle.tree.proofs.Splits.{size-spell}
 use Rattle.tree.proofs.Grounds.{accepted-spell}
 
--- A text that is not empty spells at least one node.
-size-some : (r : Run) → 1 ≤ length (spell r) → 1 ≤ size r
-size-some end h = omega arith
-size-some (dot c r) h = omega arith
-size-some (pair o i c r) h = omega arith
-
--- The tree of an accepted text has 2 to 256 nodes.
-pub accepted-nodes : (s : List ℕ) (r : Run) → reading s ≡ textAccepted r → (2 ≤ treeOf r .n) × (treeOf r .n ≤ 256)
+-- The tree of an accepted text has 1 to 256 nodes.
+pub accepted-nodes : (s : List ℕ) (r : Run) → reading s ≡ textAccepted r → (1 ≤ treeOf r .n) × (treeOf r .n ≤ 256)
 accepted-nodes s r e =
     let w = accepted-spell s r e in
     let n = ap length (w .0) in
-    (omega (arith, size-some r (omega (arith, length-some (length s) (w .2)))), omega (arith, size-spell r, length-few (length s) (w .2)))
+    (omega arith, omega (arith, size-spell r, length-few (length s) (w .2)))
+
+-- The empty text is accepted: it means the added root alone, one node, numbered 0, which is its own leftmost leaf (document 02, f).
+pub root-alone : (reading [] ≡ textAccepted end) × (nodes end ≡ root ∷ []) × (treeOf end .n ≡ 1) × (number {r = end} root ≡ 0) × (leavesOf (treeOf end) ≡ 0 ∷ [])
+unfolding reading badLength
+root-alone = (refl, refl, refl, refl, refl)
+
+-- No other accepted text has one node.
+spells-none : (r : Run) → size r ≡ 0 → spell r ≡ []
+spells-none end h = refl
+spells-none (dot c r) h = absurd (omega arith)
+spells-none (pair o i c r) h = absurd (omega arith)
+
+pub one-node : (s : List ℕ) (r : Run) → reading s ≡ textAccepted r → treeOf r .n ≡ 1 → s ≡ []
+one-node s r e h = accepted-spell s r e .0 ∙ spells-none r (omega arith)
 
 -- Reading hands over a tree whatever it answers.
 pub read-tree : (s : List ℕ) (x : TreeRead) → x ≡ readOf (reading s) → IsTree (x .tree)

@@ -1,6 +1,5 @@
 -- Grounds 1 to 4 (document 01), said of the bytes of a text, and what an answer must say by them.
 use mathlib.Core.Path.{_≡_}
-use mathlib.Core.Logic.{_⊎_}
 use Prim.Native.Nat.{ℕ, _<_}
 use mathlib.Core.List.{List, _∷_, _++_}
 use lib.ListN.{length}
@@ -11,9 +10,9 @@ use Rattle.tree.specs.Run.{Run, spell}
 use Rattle.tree.specs.Reading.{meaningOf, Meant}
 use Rattle.tree.specs.declared.character.Meaning.the-variants.{Opening, Closing, Refused}
 
--- The length is 0 or above 255.
+-- The length is above 255 (document 02, f, where 01 had 0 too).
 abbrev pub LengthRefused : List ℕ → Type 0
-LengthRefused s = (length s ≡ 0) ⊎ (255 < length s)
+LengthRefused s = 255 < length s
 
 -- The byte at k is not dot, "(" or ")".
 pub record UnknownByteAt (s : List ℕ) (k : ℕ) : Type 0 where

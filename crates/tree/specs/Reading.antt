@@ -1,7 +1,7 @@
 -- What reading a text must answer (document 01, "Structures as trees", grounds 1 to 4).
 use mathlib.Core.Path.{_≡_}
-use mathlib.Core.Bool.{Bool, true, cond}
-use Prim.Native.Nat.{ℕ, suc, _+_, _-_, _≤_, _<_}
+use mathlib.Core.Bool.{Bool, cond}
+use Prim.Native.Nat.{ℕ, suc, _+_, _-_, _≤_}
 use mathlib.Core.List.{List, [], _∷_, _++_}
 use lib.ListN.{length, getD, take, replicate}
 use lib.Dec.{eqb, ltb}
@@ -27,11 +27,10 @@ Meant end = Unit {0}
 Meant (dot c r) = (meaningOf c ≡ Unpaired) × Meant r
 Meant (pair o i c r) = (meaningOf o ≡ Opening) × Meant i × (meaningOf c ≡ Closing) × Meant r
 
--- A run spells a text of 1 to 255 bytes.
+-- A run spells a text of at most 255 bytes. The empty run spells the empty text (document 02, f).
 pub record Spells (r : Run) (s : List ℕ) : Type 0 where
   pub bytes : s ≡ spell r
   pub meant : Meant r
-  pub some : 0 < length s
   pub few : length s ≤ 255
 
 -- A text is accepted with its run, or refused on a ground at a byte.
@@ -103,9 +102,9 @@ abbrev pub firstRefused : List ℕ → ℕ
 firstRefused [] = 0
 firstRefused (c ∷ s) = orNext (meaningOf c) (firstRefused s)
 
--- The length on which ground 1 turns a text down: 0 or above 255.
+-- The length on which ground 1 turns a text down: above 255 (document 02, f, where 01 had 0 too).
 unfoldable pub badLength : ℕ → Bool
-badLength n = cond (eqb n 0) true (ltb 255 n)
+badLength n = ltb 255 n
 
 -- The ground at a byte that no run goes past.
 abbrev pub groundAt : Meaning → Ground

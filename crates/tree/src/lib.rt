@@ -26,9 +26,6 @@ pub struct TreeRead {
 fn bad_length(len: usize) -> bool
     ensures { λ r. ⌜ r ≡ badLength len ⌝ }
 {
-    if len == 0 {
-        return true;
-    }
     255 < len
 }
 
@@ -67,9 +64,10 @@ pub fn read(text: &[u8]) -> TreeRead
     let end = read_run(text, 0, 0, &mut left[..]);
     let at = end.at;
     if at == len {
+        let n = end.n + 1;
         return TreeRead {
             answer: Answer::Accepted,
-            tree: Tree { n: end.n + 1, left },
+            tree: Tree { n, left },
         };
     }
     let meaning = meaning_of(text[at]);

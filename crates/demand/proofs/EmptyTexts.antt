@@ -1,0 +1,71 @@
+-- Sessions on a text without structure (document 02, f): a seed on an added root that stands alone has no areas.
+use mathlib.Core.Path.{_≡_, sym, ap, subst, _∙_}
+use mathlib.Core.Logic.{_⊎_, inl, inr, ⊎-elim}
+use mathlib.Core.List.{List, []}
+use Prim.Native.Nat.{ℕ}
+use native.Mathlib.Omega.{arith}
+use lib.ListN.{length}
+use Rattle.answer.specs.Answer.Said.{accepted}
+use Rattle.answer.specs.Grounds.GivenIf.{fails}
+use Rattle.answer.specs.Grounds._then_.{later}
+use Rattle.answer.specs.declared.Answer.the-variants.{Accepted}
+use Rattle.answer.proofs.Numbers.{said-injective}
+use Rattle.write.specs.Wrote.{withBytes}
+use Rattle.tree.specs.Run.{Run}
+use Rattle.tree.specs.Run.Run.{end}
+use Rattle.tree.specs.Reading.{leavesOf, treeOf}
+use Rattle.tree.specs.declared.Tree.{Tree}
+use Rattle.seed.specs.Area.{Box}
+use Rattle.seed.specs.AreaList.{bytesOf}
+use Rattle.seed.proofs.RootAlone.{Alone, alone-no-areas}
+use Rattle.area.specs.declared.Listed.{Listed}
+use Rattle.table.specs.Rows.{Row}
+use Rattle.table.specs.Table.{rowsOf}
+use Rattle.chain.specs.State.{State}
+use Rattle.chain.specs.Acts.{listAreas, areasOf}
+use Rattle.chain.specs.View.{view}
+use Rattle.chain.specs.Opening.{Outcome, startWith}
+use Rattle.chain.specs.Looking.{Lists}
+use Rattle.chain.specs.declared.Session.{Session}
+use Rattle.chain.proofs.Judges.{Given}
+use Rattle.chain.proofs.Looks.{areas-put}
+use Rattle.demand.specs.History.{Event, stateOf}
+use Rattle.demand.specs.Reached.{Reached}
+use Rattle.demand.specs.Reached.Looked.{listed}
+use Rattle.demand.specs.Demands.{OpenedOn}
+use Rattle.demand.specs.Grounds.{GivenOut, CallSays}
+use Rattle.demand.proofs.Histories.{reached-sound, by-history, trees-stay}
+use Rattle.demand.proofs.Openings.{opened-state}
+use Rattle.demand.proofs.Areas.{row-seed, row-areas}
+use Rattle.demand.proofs.CallGrounds.{look-grounds}
+
+-- The tree of the empty text has one node.
+one-leaf : {x : Tree} {r : Run} → x ≡ treeOf r → r ≡ end → length (leavesOf x) ≡ 1
+one-leaf is empty = ap (λ (y : Tree). length (leavesOf y)) (is ∙ ap treeOf empty)
+
+module _ {o : Outcome} {r p : Run} {rows : List Row} (on : OpenedOn o r p rows) (empty : (r ≡ end) ⊎ (p ≡ end)) {s : Session} {h : List Event} (w : Reached o s h) where
+  state : view s ≡ stateOf (startWith (treeOf r) (treeOf p) rows) h
+  state = by-history w ∙ ap (λ (y : State). stateOf y h) (opened-state on)
+
+  alone : Alone (leavesOf (s .q)) (leavesOf (s .t))
+  alone =
+      let stay = trees-stay (startWith (treeOf r) (treeOf p) rows) h in
+      ⊎-elim
+      (λ e. inl (one-leaf (ap (λ (y : State). y .q) state ∙ stay .0) e))
+      (λ e. inr (one-leaf (ap (λ (y : State). y .t) state ∙ stay .1) e))
+      empty
+
+  -- Listing the areas of a number that was given out is accepted on an output of any length, answers 0 and writes nothing.
+  pub empty-no-areas : (k : ℕ) → GivenOut (stateOf (o .state) h) k → (before after : List ℕ) (x : Listed) → Lists (view s) k before after x → (x .answer ≡ Accepted) × (x .count ≡ 0) × (after ≡ before)
+  unfolding bytesOf
+  empty-no-areas k given before after x l =
+      let sound = reached-sound w in
+      let now : State = stateOf (o .state) h in
+      let number : GivenOut (view s) k = subst (λ (y : State). GivenOut y k) (sym (by-history w)) given in
+      let out : Given (length (rowsOf (s .table))) k = record { low = number .0; high = number .1 } in
+      let none : areasOf (view s) k ≡ [] = alone-no-areas (row-seed s sound k out) alone _ (row-areas s sound k out) in
+      let still : areasOf now k ≡ [] = ap (λ (y : State). areasOf y k) (sym (by-history w)) ∙ none in
+      let says : CallSays now (listAreas k (length before)) accepted = later (fails (λ n. n given)) (fails (λ short. omega (arith, ap length still))) in
+      let ok : x .answer ≡ Accepted = said-injective (x .answer) Accepted (sym (look-grounds w (listAreas k (length before)) (listed k l) .decided says)) in
+      let put = areas-put l ok in
+      (ok, put .count ∙ ap length none, put .output ∙ ap (λ (xs : List Box). withBytes (bytesOf xs) before) none)

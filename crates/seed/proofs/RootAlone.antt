@@ -1,0 +1,52 @@
+-- Seeds on a text without structure (document 02, f): where one of the two trees is the added root alone, a seed has no areas, and no two seeds are
+-- chainable.
+use mathlib.Core.Path.{_≡_, refl, subst}
+use mathlib.Core.Logic.{_⊎_, inl, ⊎-elim}
+use mathlib.Core.List.{List, [], _∷_, List·Memᴰ·head, Memᴰ·map}
+use Prim.Native.Nat.{ℕ, _<_}
+use native.Mathlib.Omega.{arith}
+use lib.ListN.{length}
+use Rattle.seed.specs.Seed.{_∈_, Seed, qs, ts, qOf, tOf, lastPair, Span}
+use Rattle.seed.specs.Chain.{Chainable}
+use Rattle.seed.specs.Area.{Box, FitsAt, Area, Areas}
+use Rattle.seed.specs.Pairs.{pairOf}
+use Rattle.seed.specs.declared.Pair.{Pair}
+use Rattle.seed.proofs.Lists.{last-in}
+
+-- One of two trees has one node.
+abbrev pub Alone : List ℕ → List ℕ → Type 0
+Alone Q T = (length Q ≡ 1) ⊎ (length T ≡ 1)
+
+module _ {Q T : List ℕ} {s : List Pair} (seed : Seed Q T s) where
+  root-in : lastPair s ∈ s
+  root-in = last-in (pairOf 0 0) s (seed .some)
+
+  root-nodes : (lastPair s .q < length Q) × (lastPair s .t < length T)
+  root-nodes = seed .nodes (lastPair s) root-in
+
+  -- Nothing lies properly below the only node.
+  no-fit : Alone Q T → (i j : ℕ) → FitsAt Q T s i j → ⊥
+  no-fit alone i j f = ⊎-elim (λ one. omega (arith, root-nodes, f .below-q)) (λ one. omega (arith, root-nodes, f .below-t)) alone
+
+  pub alone-no-area : Alone Q T → (x : Box) → Area Q T s x → ⊥
+  alone-no-area alone x h =
+      let box = h .filled in
+      no-fit alone (x .a) (x .c) (box .all (x .a) (x .c) (omega arith, box .wide, omega arith, box .high))
+
+  pub alone-no-areas : Alone Q T → (xs : List Box) → Areas Q T s xs → xs ≡ []
+  alone-no-areas alone [] h = refl
+  alone-no-areas alone (x ∷ xs) h = absurd (alone-no-area alone x (h .each x .0 (List·Memᴰ·head refl)))
+
+-- The spans of two seeds share the only node.
+pub alone-not-chainable : {Q T : List ℕ} {s u : List Pair} → Alone Q T → Seed Q T s → Seed Q T u → Chainable Q T s u → ⊥
+alone-not-chainable {Q} {T} {s} {u} alone one two c =
+    let n = root-nodes one in
+    let m = root-nodes two in
+    ⊎-elim
+    (λ e.
+    let same : lastPair u .q ≡ lastPair s .q = omega arith in
+    c .apart-q (lastPair s .q) (inl (Memᴰ·map qOf (root-in one))) (subst (Span Q (qs u)) same (inl (Memᴰ·map qOf (root-in two)))))
+    (λ e.
+    let same : lastPair u .t ≡ lastPair s .t = omega arith in
+    c .apart-t (lastPair s .t) (inl (Memᴰ·map tOf (root-in one))) (subst (Span T (ts u)) same (inl (Memᴰ·map tOf (root-in two)))))
+    alone
