@@ -1,4 +1,5 @@
--- The starred examples of document 01, as rows of one list: what the definitions give, and what the document says.
+-- The starred examples of document 01, and those of a text without structure (document 02, f), as rows of one list: what the definitions give, and what
+-- the documents say.
 use mathlib.Core.Path.{_≡_}
 use mathlib.Core.Bool.{Bool, true, false, cond}
 use mathlib.Core.List.{List, [], _∷_}
@@ -17,8 +18,8 @@ use Rattle.seed.specs.declared.Pair.{Pair}
 use Rattle.best.specs.Best.{scratchNeeded}
 use Rattle.best.specs.declared.Best.{Best}
 use Rattle.chain.specs.State.{State}
-use Rattle.chain.specs.Acts.{Act, add, rescore, withdraw, bestChain, grounds, step, areasOf}
-use Rattle.chain.specs.Opening.{opening}
+use Rattle.chain.specs.Acts.{Act, add, rescore, withdraw, bestChain, grounds, step, areasOf, deckOf}
+use Rattle.chain.specs.Opening.{opening, deckOpening}
 use Rattle.chain.specs.Looking.{bestBy, keyIn}
 
 -- A is `(.(.)).` and B is `(.)(.)`; A is Q and B is T.
@@ -42,8 +43,8 @@ abbrev pub doing : State → Act → State
 doing s act = step s act (grounds s act)
 
 -- What an add says.
-abbrev pub adding : List Pair → Said
-adding ps = said (grounds onAB (add ps (pos 0)))
+abbrev pub adding : State → List Pair → Said
+adding s ps = said (grounds s (add ps (pos 0)))
 
 -- The border nodes of a list in one tree that are not in it.
 abbrev pub unpairedFrom : List ℕ → List ℕ → ℕ → ℕ → List ℕ
@@ -81,13 +82,13 @@ abbrev pub starred : List Example
 starred =
     lists (leavesOf (onAB .q)) (0 ∷ 1 ∷ 1 ∷ 0 ∷ 4 ∷ 0 ∷ [])
     ∷ lists (leavesOf (onAB .t)) (0 ∷ 0 ∷ 2 ∷ 2 ∷ 0 ∷ [])
-    ∷ says (adding (two 2 0 5 4)) (refused 19 (Seed 1))
+    ∷ says (adding onAB (two 2 0 5 4)) (refused 19 (Seed 1))
     -- Q's node 3 is the unpaired one.
     ∷ lists (unpairedFrom (leavesOf (onAB .q)) (qs (two 2 0 5 4)) 0 6) (3 ∷ [])
     ∷ lists (unpairedFrom (leavesOf (onAB .t)) (ts (two 2 0 5 4)) 0 5) []
-    ∷ says (adding (two 0 0 1 1)) (refused 17 (Seed 1))
-    ∷ says (adding (two 0 0 4 2)) (refused 18 (Seed 1))
-    ∷ says (adding (two 1 0 3 1)) accepted
+    ∷ says (adding onAB (two 0 0 1 1)) (refused 17 (Seed 1))
+    ∷ says (adding onAB (two 0 0 4 2)) (refused 18 (Seed 1))
+    ∷ says (adding onAB (two 1 0 3 1)) accepted
     ∷ lists (bytesOf (areasOf (doing onAB (add (two 3 1 5 4) (pos 0))) 1)) (0 ∷ 2 ∷ 0 ∷ 0 ∷ 4 ∷ 4 ∷ 2 ∷ 3 ∷ [])
     -- The stretches of the two areas.
     ∷ lists (partOf A 0 2) (bytes ".(.)")
@@ -102,6 +103,42 @@ starred =
     ∷ lists (totalAndChain (doing five (withdraw 1))) (6 ∷ 2 ∷ 3 ∷ 4 ∷ [])
     ∷ lists (totalAndChain fourRescored) (7 ∷ 2 ∷ 3 ∷ 4 ∷ [])
     ∷ lists (totalAndChain twoWithdrawn) (5 ∷ 3 ∷ 4 ∷ [])
+    ∷ []
+
+-- On two empty texts, with the seed (0, 0) of score 5, and with (0, 0) of score 7 besides; on an empty text and one with structure.
+abbrev pub onEmpty : State
+onEmpty = opening [] [] .state
+
+abbrev pub oneOnEmpty : State
+oneOnEmpty = doing onEmpty (add (one 0 0) (pos 5))
+
+abbrev pub twoOnEmpty : State
+twoOnEmpty = doing oneOnEmpty (add (one 0 0) (pos 7))
+
+abbrev pub onEmptyAnd : List ℕ → State
+onEmptyAnd t = opening [] t .state
+
+abbrev pub onEmptyText : List Example
+onEmptyText =
+    says (said (opening [] [] .answer)) accepted
+    ∷ lists (leavesOf (onEmpty .q)) (0 ∷ [])
+    ∷ says (adding onEmpty (one 0 0)) accepted
+    ∷ says (adding onEmpty (one 1 0)) (refused 15 (Seed 1))
+    ∷ says (adding onEmpty (one 0 1)) (refused 15 (Seed 1))
+    ∷ lists (totalAndChain oneOnEmpty) (5 ∷ 1 ∷ [])
+    ∷ lists (bytesOf (areasOf oneOnEmpty 1)) []
+    -- Both seeds take the only node.
+    ∷ lists (totalAndChain twoOnEmpty) (7 ∷ 2 ∷ [])
+    -- The deck of both, written and read back.
+    ∷ lists (deckOf twoOnEmpty) (2 ∷ 0 ∷ 0 ∷ 2 ∷ 0 ∷ 0 ∷ 0 ∷ 5 ∷ 0 ∷ 1 ∷ 0 ∷ 0 ∷ 0 ∷ 7 ∷ 0 ∷ 2 ∷ 0 ∷ 0 ∷ 0 ∷ 0 ∷ 0 ∷ 0 ∷ 0 ∷ 0 ∷ [])
+    ∷ says (said (deckOpening [] [] (deckOf twoOnEmpty) .answer)) accepted
+    ∷ lists (totalAndChain (deckOpening [] [] (deckOf twoOnEmpty) .state)) (7 ∷ 2 ∷ [])
+    -- The root alone and the dot of `.`, and the two roots.
+    ∷ says (adding (onEmptyAnd (bytes ".")) (one 0 0)) accepted
+    ∷ says (adding (onEmptyAnd (bytes ".")) (one 0 1)) accepted
+    ∷ lists (bytesOf (areasOf (doing (onEmptyAnd (bytes "(.)")) (add (one 0 2) (pos 0))) 1)) []
+    -- A refused opening hands over the trees of `.` all the same.
+    ∷ lists (leavesOf (opening [] (bytes "(") .state .q)) (0 ∷ 0 ∷ [])
     ∷ []
 
 -- Each holds: the two are the same.

@@ -1,3 +1,4 @@
 pub mod Parts
 pub mod Reports
+pub mod EmptyTexts
 pub mod Examples

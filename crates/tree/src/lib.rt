@@ -64,10 +64,9 @@ pub fn read(text: &[u8]) -> TreeRead
     let end = read_run(text, 0, 0, &mut left[..]);
     let at = end.at;
     if at == len {
-        let n = end.n + 1;
         return TreeRead {
             answer: Answer::Accepted,
-            tree: Tree { n, left },
+            tree: Tree { n: end.n + 1, left },
         };
     }
     let meaning = meaning_of(text[at]);

@@ -36,8 +36,8 @@ read-run-requires c κs =
     let length = c .before .before .before in
     read-ready _ (sym (length .before .bad-length .ensures) ∙ length .if1 .left)
 
-add-n : tie.Need-add-n
-add-n c =
+add-t15 : tie.Need-add-t15
+add-t15 c =
     let known = c .before .before .before .before .before in
     let length = known .before .before in
     let fits = sym (length .before .bad-length .ensures) ∙ length .if1 .left in
@@ -98,7 +98,7 @@ read-spec =
     returns-2
     slice-aggregate-read-run
     read-run-requires
-    add-n
+    add-t15
     returns-3
     shared-slice-read-meaning-of
     meaning-of-requires
