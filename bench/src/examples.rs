@@ -1,4 +1,4 @@
-//! The examples of document 01 that the printed lines can show, with what they print.
+//! The examples of documents 01 and 02 that the printed lines can show, with what they print.
 
 use crate::reference::read_tree;
 
@@ -43,6 +43,11 @@ pub fn two_seeds() -> Vec<u8> {
         2, 0, 0, 2, 0, 0, 0, 3, 0, 1, 0, 0, 0, 2, 0, 2, 2, 1, 0, 0, 4, 3, 0, 0,
     ];
     [A, b"\n", B, b"\n", &deck].concat()
+}
+
+/// One seed on the added roots of two empty texts.
+pub fn on_empty_texts() -> Vec<u8> {
+    input(b"", b"", &[(5, &[(0, 0)])])
 }
 
 fn one(score: i32, pairs: &[(u8, u8)]) -> Vec<u8> {
@@ -106,11 +111,29 @@ pub fn all() -> Vec<(Vec<u8>, &'static str)> {
         (text(b"(()"), "refused 4 Q 0\n"),
         (text(b"()("), "refused 4 Q 2\n"),
         (text(b")("), "refused 3 Q 0\n"),
-        (b"".to_vec(), "refused 1 Q 0\n"),
-        (b"..".to_vec(), "refused 1 T 0\n"),
         (b"..\n.".to_vec(), "refused 5\n"),
         (b".\n.\n\0\0\0\0\n".to_vec(), "refused 5\n"),
         (b".\n.\n\0\0\0\x01\0\0\0\0".to_vec(), "refused 8\n"),
+        // Texts without structure (document 02, f).
+        (b"".to_vec(), "refused 5\n"),
+        (b".".to_vec(), "refused 5\n"),
+        (b".\n".to_vec(), "refused 5\n"),
+        (b"\n\n".to_vec(), "refused 5\n"),
+        (b"(".to_vec(), "refused 4 Q 0\n"),
+        (input(b"", &[b'.'; 256], &[]), "refused 1 T 0\n"),
+        (input(b"", b"", &[]), nothing),
+        (on_empty_texts(), "score 5\nchain 1\n"),
+        // Both seeds take the only node.
+        (
+            input(b"", b"", &[(5, &[(0, 0)]), (7, &[(0, 0)])]),
+            "score 7\nchain 2\n",
+        ),
+        (
+            input(b"", b".", &[(1, &[(0, 0)]), (1, &[(0, 1)])]),
+            "score 1\nchain 1\n",
+        ),
+        (input(b"", b"(.)", &[(3, &[(0, 2)])]), "score 3\nchain 1\n"),
+        (input(b"", b".", &[(1, &[(1, 0)])]), "refused 15 seed 1\n"),
     ]
 }
 

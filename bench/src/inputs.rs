@@ -128,7 +128,7 @@ pub fn structure(random: &mut Random, length: usize, open: usize, close: usize) 
 
 fn some_length(random: &mut Random) -> usize {
     match random.below(10) {
-        0..=3 => random.size(1, 14),
+        0..=3 => random.size(0, 14),
         4..=6 => random.size(10, 70),
         7..=8 => random.size(60, 255),
         _ => 255,
@@ -156,7 +156,7 @@ fn near_structure(random: &mut Random, text: &[u8]) -> Vec<u8> {
         let at = random.below(near.len() + 1);
         if near.len() < 255 && random.chance(60) {
             near.insert(at, b'.');
-        } else if at < near.len() && near.len() > 1 && near[at] == b'.' {
+        } else if at < near.len() && near[at] == b'.' {
             near.remove(at);
         }
     }
@@ -655,8 +655,13 @@ fn damage_texts(random: &mut Random, draft: &mut Draft) {
 }
 
 fn damage_text(random: &mut Random, text: &mut Vec<u8>) {
+    // An empty text has no byte to spoil.
+    if text.is_empty() {
+        text.push(b'.');
+    }
     let at = random.below(text.len());
     match random.below(9) {
+        // A structure all the same, but mostly not the seeds'.
         0 => text.clear(),
         1 => text.resize(random.size(256, 300), b'.'),
         2 => text[at] = random.pick(&[b'a', b' ', b'[', 0, 0xFF, b'\r', b'*', b'/']),
@@ -742,7 +747,7 @@ pub fn fixed_inputs() -> Vec<Vec<u8>> {
         b".\n.\n".to_vec(),
     ];
     let dots = |count| vec![b'.'; count];
-    for count in [1, 254, 255, 256, 257, 8192] {
+    for count in [0, 1, 254, 255, 256, 257, 8192] {
         inputs.push(join(&dots(count), b".", &[0; 4]));
         inputs.push(join(b".", &dots(count), &[0; 4]));
     }
@@ -758,6 +763,7 @@ pub fn fixed_inputs() -> Vec<Vec<u8>> {
     }
     inputs.push(most_pairs());
     inputs.extend(changes_of(&crate::examples::two_seeds()));
+    inputs.extend(changes_of(&crate::examples::on_empty_texts()));
     inputs.extend(short_texts(6));
     inputs
 }
@@ -782,19 +788,24 @@ fn changes_of(input: &[u8]) -> Vec<Vec<u8>> {
 
 /// Every text over the three bytes and a wrong one, as Q and as T, up to a length.
 fn short_texts(longest: usize) -> Vec<Vec<u8>> {
-    let mut inputs = Vec::new();
-    let mut texts = vec![Vec::new()];
-    for _ in 0..longest {
-        texts = texts
-            .iter()
-            .flat_map(|text| b".()a".map(|byte| [&text[..], &[byte]].concat()))
-            .collect();
-        for text in &texts {
-            inputs.push(join(text, b".", &[0; 4]));
-            inputs.push(join(b"()", text, &[0; 4]));
+    texts_over(b".()a", longest)
+        .iter()
+        .flat_map(|text| [join(text, b".", &[0; 4]), join(b"()", text, &[0; 4])])
+        .collect()
+}
+
+/// Every text over some bytes up to a length, the empty one first.
+fn texts_over(bytes: &[u8], longest: usize) -> Vec<Vec<u8>> {
+    let mut all: Vec<Vec<u8>> = vec![Vec::new()];
+    let mut at = 0;
+    while all[at].len() < longest {
+        for &byte in bytes {
+            let longer = [&all[at][..], &[byte]].concat();
+            all.push(longer);
         }
+        at += 1;
     }
-    inputs
+    all
 }
 
 /// Every list of one to three pairs, with two numbers beyond each tree, on every two structures of up
@@ -816,16 +827,9 @@ pub fn small_lists(visit: &mut dyn FnMut(&[u8])) {
 }
 
 fn small_structures(longest: usize) -> Vec<Vec<u8>> {
-    let mut found = Vec::new();
-    let mut texts = vec![Vec::new()];
-    for _ in 0..longest {
-        texts = texts
-            .iter()
-            .flat_map(|text| b".()".map(|byte| [&text[..], &[byte]].concat()))
-            .collect();
-        found.extend(texts.iter().filter(|text| read_tree(text).is_ok()).cloned());
-    }
-    found
+    let mut texts = texts_over(b".()", longest);
+    texts.retain(|text| read_tree(text).is_ok());
+    texts
 }
 
 /// The lists that begin with `list` and have up to `more` pairs beyond it.

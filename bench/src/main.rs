@@ -23,6 +23,7 @@ struct Checker {
     outcomes: BTreeMap<String, usize>,
     tried: usize,
     tied: usize,
+    on_empty: usize,
     longest: u32,
 }
 
@@ -34,6 +35,7 @@ impl Checker {
             outcomes,
             tried: 0,
             tied: 0,
+            on_empty: 0,
             longest: 0,
         }
     }
@@ -62,11 +64,12 @@ impl Checker {
         *self.outcomes.entry(outcome(&lines)).or_insert(0) += 1;
     }
 
-    /// The self-check of the best chain: every set of seeds, where they are few.
+    /// The self-check of the best chain: every set of seeds, where they are few. Counts what was accepted.
     fn try_all(&mut self, input: &[u8]) {
         let Ok(session) = reference::open(input, reference::check_seed) else {
             return;
         };
+        self.on_empty += (session.q.count == 1 || session.t.count == 1) as usize;
         let best = reference::best_chain(&session, reference::chainable);
         self.longest = self.longest.max(best.mask.count_ones());
         if session.seeds.len() > TRIED {
@@ -89,11 +92,16 @@ impl Checker {
             "  {} of them also by trying every set, {} with a tie",
             self.tried, self.tied
         );
+        println!("  {} accepted on an empty text", self.on_empty);
         println!("  the longest chain has {} seeds", self.longest);
     }
 
-    /// Too few of a ground would leave it unchecked.
+    /// Too few of a ground, or on an empty text, would leave them unchecked.
     fn fail_if_rare(&self, least: usize) {
+        if self.on_empty < least {
+            println!("only {} were accepted on an empty text", self.on_empty);
+            exit(1);
+        }
         for ground in GROUNDS {
             let start = format!("refused {ground:>2}");
             let hits = self

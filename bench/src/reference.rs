@@ -1,5 +1,5 @@
-//! The printed lines, written from document 01 alone, by its definitions: spans are sets of nodes,
-//! and two seeds are chainable if the spans are apart and all their pairs together are a mapping.
+//! The printed lines, written from documents 01 and 02 alone, by their definitions: spans are sets of
+//! nodes, and two seeds are chainable if the spans are apart and all their pairs together are a mapping.
 
 use std::io::Write;
 
@@ -171,7 +171,7 @@ fn cut_line(bytes: &[u8]) -> (&[u8], &[u8]) {
 
 /// A text as a tree, or the ground and the byte position.
 pub fn read_tree(text: &[u8]) -> Result<Tree, (u8, usize)> {
-    if text.is_empty() || text.len() > TEXT_LIMIT {
+    if text.len() > TEXT_LIMIT {
         return Err((1, 0));
     }
     if let Some(at) = text.iter().position(|byte| !b".()".contains(byte)) {

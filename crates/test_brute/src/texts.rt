@@ -1,4 +1,4 @@
-// Grounds 1 to 4 of a short text whose only other byte is an x.
+// Grounds 1 to 4 of a text whose only other byte is an x.
 use test_words::plain::find;
 use test_words::plain::less;
 use test_words::plain::more;
@@ -58,10 +58,10 @@ fn first_never_closed(s: &[u8]) -> usize {
     s.len()
 }
 
-// The first of the grounds 1 to 4 that holds of a short text.
+// The first of the grounds 1 to 4 that holds of a text.
 pub fn judge(s: &[u8]) -> Verdict {
     let n = s.len();
-    if n == 0 {
+    if 255 < n {
         return Verdict { ground: 1, at: 0 };
     }
     let other = find(s, 0, b'x', b'x');

@@ -46,9 +46,9 @@ fn letter(state: &mut u64, depth: usize, left: usize) -> u8 {
     b')'
 }
 
-// A random structure of 1 to 10 bytes.
+// A random structure of 0 to 10 bytes.
 pub fn structure(state: &mut u64) -> Sample {
-    let len = 1 + draw(state, 10) % 10;
+    let len = draw(state, 11) % 11;
     let mut s = empty();
     let mut depth = 0;
     for k in 0..len {

@@ -15,9 +15,10 @@ pub struct Count {
     pub wrong: usize,
 }
 
-// What the random sessions count besides: the seeds, the best chains compared, those of two seeds or more, those with a tie, and the open
-// areas.
+// What the random sessions count besides: those on an empty text, the seeds, the best chains compared, those of two seeds or more, those with
+// a tie, and the open areas.
 pub struct Seen {
+    pub empty: usize,
     pub seeds: usize,
     pub chains: usize,
     pub longer: usize,
@@ -41,6 +42,7 @@ pub fn none() -> Count {
 
 pub fn nothing() -> Seen {
     Seen {
+        empty: 0,
         seeds: 0,
         chains: 0,
         longer: 0,
@@ -74,6 +76,17 @@ pub fn counted(c: Count, ground: usize, right: bool) -> Count {
         next.by_ground[ground] = more(before);
     }
     marked(next, right, b"an answer")
+}
+
+// One session more, on two texts.
+pub fn with_texts(s: Seen, q: Sample, t: Sample) -> Seen {
+    let mut next = s;
+    if q.len == 0 {
+        next.empty = more(s.empty);
+    } else if t.len == 0 {
+        next.empty = more(s.empty);
+    }
+    next
 }
 
 pub fn with_seeds(s: Seen, ground: usize) -> Seen {
@@ -124,7 +137,8 @@ pub fn print_count(group: &[u8], c: Count) {
 
 // A line with what else was counted.
 pub fn print_seen(s: Seen) {
-    let seeds = with_count(blank(), s.seeds, b" seeds, ");
+    let empty = with_count(blank(), s.empty, b" on an empty text, ");
+    let seeds = with_count(empty, s.seeds, b" seeds, ");
     let chains = with_count(seeds, s.chains, b" best chains, ");
     let longer = with_count(chains, s.longer, b" of two seeds or more, ");
     let ties = with_count(longer, s.ties, b" with a tie, ");

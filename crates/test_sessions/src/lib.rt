@@ -20,6 +20,7 @@ use test_random::tally::marked;
 use test_random::tally::none;
 use test_random::tally::nothing;
 use test_random::tally::print_if_wrong;
+use test_random::tally::with_texts;
 use test_words::plain::part;
 ghost use Rattle.chain.specs.View.{Sound};
 
@@ -100,6 +101,16 @@ fn on_bytes(
     on_texts(part(&q, 0, n), part(&t, 0, m), state, counts)
 }
 
+// What is counted from case to case, with one on two texts more.
+fn begun(q: Sample, t: Sample, counts: Counts) -> Counts {
+    let count = counts.count;
+    let seen = counts.seen;
+    Counts {
+        count,
+        seen: with_texts(seen, q, t),
+    }
+}
+
 // One random case: its two texts are printed if an answer in it is wrong.
 fn one(q: Sample, t: Sample, state: &mut u64, counts: Counts) -> Counts {
     let before = counts.count;
@@ -123,7 +134,7 @@ pub fn other(q: Sample, state: &mut u64) -> Sample {
 fn session(state: &mut u64, counts: Counts) -> Counts {
     let q = structure(state);
     let t = other(q, state);
-    one(q, t, state, counts)
+    one(q, t, state, begun(q, t, counts))
 }
 
 pub fn sessions(cases: usize, seed: u64) -> Counts {
