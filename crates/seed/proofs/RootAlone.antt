@@ -6,7 +6,7 @@ use mathlib.Core.List.{List, [], _∷_, List·Memᴰ·head, Memᴰ·map}
 use Prim.Native.Nat.{ℕ, _<_}
 use native.Mathlib.Omega.{arith}
 use lib.ListN.{length}
-use Rattle.seed.specs.Seed.{_∈_, Seed, qs, ts, qOf, tOf, lastPair, Span}
+use Rattle.seed.specs.Seed.{_∈_, Seed, qOf, tOf, lastPair, Span}
 use Rattle.seed.specs.Chain.{Chainable}
 use Rattle.seed.specs.Area.{Box, FitsAt, Area, Areas}
 use Rattle.seed.specs.Pairs.{pairOf}
@@ -37,16 +37,16 @@ module _ {Q T : List ℕ} {s : List Pair} (seed : Seed Q T s) where
   alone-no-areas alone [] h = refl
   alone-no-areas alone (x ∷ xs) h = absurd (alone-no-area alone x (h .each x .0 (List·Memᴰ·head refl)))
 
--- The spans of two seeds share the only node.
+-- Spans of lists that have a node in common share it.
+shared : {l xs ys : List ℕ} {x y : ℕ} → x ∈ xs → y ∈ ys → y ≡ x → ((z : ℕ) → Span l xs z → ¬ Span l ys z) → ⊥
+shared {l} {ys = ys} {x = x} m n same apart = apart x (inl m) (subst (Span l ys) same (inl n))
+
+-- So do those of two seeds on the only node.
 pub alone-not-chainable : {Q T : List ℕ} {s u : List Pair} → Alone Q T → Seed Q T s → Seed Q T u → Chainable Q T s u → ⊥
-alone-not-chainable {Q} {T} {s} {u} alone one two c =
-    let n = root-nodes one in
-    let m = root-nodes two in
+alone-not-chainable alone a b c =
+    let n = root-nodes a in
+    let m = root-nodes b in
     ⊎-elim
-    (λ e.
-    let same : lastPair u .q ≡ lastPair s .q = omega arith in
-    c .apart-q (lastPair s .q) (inl (Memᴰ·map qOf (root-in one))) (subst (Span Q (qs u)) same (inl (Memᴰ·map qOf (root-in two)))))
-    (λ e.
-    let same : lastPair u .t ≡ lastPair s .t = omega arith in
-    c .apart-t (lastPair s .t) (inl (Memᴰ·map tOf (root-in one))) (subst (Span T (ts u)) same (inl (Memᴰ·map tOf (root-in two)))))
+    (λ one. shared (Memᴰ·map qOf (root-in a)) (Memᴰ·map qOf (root-in b)) (omega arith) (c .apart-q))
+    (λ one. shared (Memᴰ·map tOf (root-in a)) (Memᴰ·map tOf (root-in b)) (omega arith) (c .apart-t))
     alone

@@ -20,7 +20,6 @@ use Rattle.stretch.specs.declared.search.Located.{Located}
 use Rattle.tree.specs.declared.TreeRead.{TreeRead}
 use Rattle.answer.proofs.Denied.{clash}
 use Rattle.tree.proofs.Lengths.{length-few, length-fits}
-use Rattle.tree.proofs.Splits.{size-spell}
 use Rattle.tree.proofs.Grounds.{accepted-spell, read-accepts}
 use Rattle.stretch.proofs.Scans.{Spelled, scan-inside, scan-at, scan-nodes, scan-width, scan-part, spells}
 use Rattle.stretch.proofs.Neighbours.{stands, neighbours}

@@ -48,7 +48,7 @@ fn letter(state: &mut u64, depth: usize, left: usize) -> u8 {
 
 // A random structure of 0 to 10 bytes.
 pub fn structure(state: &mut u64) -> Sample {
-    let len = draw(state, 11) % 11;
+    let len = draw(state, 11);
     let mut s = empty();
     let mut depth = 0;
     for k in 0..len {
