@@ -43,8 +43,8 @@ use Rattle.demand.specs.History.{Event, stateOf}
 use Rattle.demand.specs.Reached.{Reached}
 use Rattle.demand.specs.Reached.Reached.{opened}
 use Rattle.demand.specs.Demands.{OpenedOn, tableBy}
-use Rattle.demand.proofs.Histories.{reached-sound, by-history, trees-stay}
-use Rattle.demand.proofs.Openings.{both-spelled, deck-state, opened-state}
+use Rattle.demand.proofs.Histories.{reached-sound, by-history}
+use Rattle.demand.proofs.Openings.{both-spelled, deck-state, reached-state, reached-trees}
 
 -- A score in range is stored as it is.
 and-left : (a b : Bool) → (a && b) ≡ true → a ≡ true
@@ -132,14 +132,11 @@ module _ {o : Outcome} {s : Session} {h : List Event} (reached : Reached o s h) 
       → {a : Answer} {again : Session} → Opens (deckOpening q t (take (w .length) after)) a again
       → (a ≡ Accepted) × (view again ≡ startWith (treeOf r) (treeOf p) (presentRows (tableBy r p rows h)))
   written-then-opened {r} {p} {rows} on q t spells-q spells-t {a} {again} opens =
-      let state : view s ≡ stateOf (startWith (treeOf r) (treeOf p) rows) h = by-history reached ∙ ap (λ (y : State). stateOf y h) (opened-state on) in
-      let stay = trees-stay (startWith (treeOf r) (treeOf p) rows) h in
-      let tree-q : s .q ≡ treeOf r = ap (λ (y : State). y .q) state ∙ stay .0 in
-      let tree-t : s .t ≡ treeOf p = ap (λ (y : State). y .t) state ∙ stay .1 in
-      let both : bothRead q t ≡ record { answer = Accepted; q = s .q; t = s .t } = both-spelled spells-q spells-t ∙ ap₂ (λ (y z : Tree). record { answer = Accepted; q = y; t = z }) (sym tree-q) (sym tree-t) in
+      let trees = reached-trees on reached in
+      let both : bothRead q t ≡ record { answer = Accepted; q = s .q; t = s .t } = both-spelled spells-q spells-t ∙ ap₂ (λ (y z : Tree). record { answer = Accepted; q = y; t = z }) (sym (trees .0)) (sym (trees .1)) in
       let outcome = ap (deckOpening q t) deck-written ∙ deck-reopened s (reached-sound reached) q t both in (
         opens .answers ∙ ap (λ (y : Outcome). y .answer) outcome,
-        opens .leaves ∙ ap (λ (y : Outcome). y .state) outcome ∙ ap₂ (λ (y z : Tree). startWith y z (presentRows (view s .rows))) tree-q tree-t ∙ ap (λ (y : State). startWith (treeOf r) (treeOf p) (presentRows (y .rows))) state,
+        opens .leaves ∙ ap (λ (y : Outcome). y .state) outcome ∙ ap₂ (λ (y z : Tree). startWith y z (presentRows (view s .rows))) (trees .0) (trees .1) ∙ ap (λ (y : State). startWith (treeOf r) (treeOf p) (presentRows (y .rows))) (reached-state on reached),
       )
 
 -- An accepted deck that is opened and written is put in plain form.

@@ -24,7 +24,7 @@ use Rattle.table.specs.Table.{rowsOf}
 use Rattle.chain.specs.State.{State}
 use Rattle.chain.specs.Acts.{listAreas, areasOf}
 use Rattle.chain.specs.View.{view}
-use Rattle.chain.specs.Opening.{Outcome, startWith}
+use Rattle.chain.specs.Opening.{Outcome}
 use Rattle.chain.specs.Looking.{Lists}
 use Rattle.chain.specs.declared.Session.{Session}
 use Rattle.chain.proofs.Judges.{Given}
@@ -34,26 +34,18 @@ use Rattle.demand.specs.Reached.{Reached}
 use Rattle.demand.specs.Reached.Looked.{listed}
 use Rattle.demand.specs.Demands.{OpenedOn}
 use Rattle.demand.specs.Grounds.{GivenOut, CallSays}
-use Rattle.demand.proofs.Histories.{reached-sound, by-history, trees-stay}
-use Rattle.demand.proofs.Openings.{opened-state}
+use Rattle.demand.proofs.Histories.{reached-sound, by-history}
+use Rattle.demand.proofs.Openings.{reached-trees}
 use Rattle.demand.proofs.Areas.{row-seed, row-areas}
 use Rattle.demand.proofs.CallGrounds.{look-grounds}
 
--- The tree of the empty text has one node.
+-- The run without items spells the empty text, and its tree has one node.
 one-leaf : {x : Tree} {r : Run} → x ≡ treeOf r → r ≡ end → length (leavesOf x) ≡ 1
 one-leaf is empty = ap (λ (y : Tree). length (leavesOf y)) (is ∙ ap treeOf empty)
 
 module _ {o : Outcome} {r p : Run} {rows : List Row} (on : OpenedOn o r p rows) (empty : (r ≡ end) ⊎ (p ≡ end)) {s : Session} {h : List Event} (w : Reached o s h) where
-  state : view s ≡ stateOf (startWith (treeOf r) (treeOf p) rows) h
-  state = by-history w ∙ ap (λ (y : State). stateOf y h) (opened-state on)
-
   alone : Alone (leavesOf (s .q)) (leavesOf (s .t))
-  alone =
-      let stay = trees-stay (startWith (treeOf r) (treeOf p) rows) h in
-      ⊎-elim
-      (λ e. inl (one-leaf (ap (λ (y : State). y .q) state ∙ stay .0) e))
-      (λ e. inr (one-leaf (ap (λ (y : State). y .t) state ∙ stay .1) e))
-      empty
+  alone = let trees = reached-trees on w in ⊎-elim (λ e. inl (one-leaf (trees .0) e)) (λ e. inr (one-leaf (trees .1) e)) empty
 
   -- Listing the areas of a number that was given out is accepted on an output of any length, answers 0 and writes nothing.
   pub empty-no-areas : (k : ℕ) → GivenOut (stateOf (o .state) h) k → (before after : List ℕ) (x : Listed) → Lists (view s) k before after x → (x .answer ≡ Accepted) × (x .count ≡ 0) × (after ≡ before)

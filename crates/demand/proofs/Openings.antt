@@ -1,4 +1,4 @@
--- The state of each opening, by the runs that its texts spell.
+-- The state of each opening, and of the sessions that calls hand over from there, by the runs that its texts spell.
 use mathlib.Core.Path.{_≡_, refl, ap, ap₂, _∙_}
 use mathlib.Core.List.{List, []}
 use Prim.Native.Nat.{ℕ, _≤_}
@@ -20,9 +20,14 @@ use Rattle.dealing.specs.Texts.{bothOf, bothRead}
 use Rattle.dealing.specs.declared.texts.TwoTrees.{TwoTrees}
 use Rattle.dealing.specs.Deal.{Deal, dealBy, dealAnswer, dealOf}
 use Rattle.chain.specs.State.{State}
+use Rattle.chain.specs.View.{view}
 use Rattle.chain.specs.Opening.{Outcome, startWith, opening, deckOpening}
+use Rattle.chain.specs.declared.Session.{Session}
+use Rattle.demand.specs.History.{Event, stateOf}
+use Rattle.demand.specs.Reached.{Reached}
 use Rattle.demand.specs.Demands.{OpenedOn, OpenedOnSome}
 use Rattle.demand.specs.Demands.OpenedOn.{texts, deck, texts-refused, deck-refused}
+use Rattle.demand.proofs.Histories.{by-history, trees-stay}
 
 -- A run that spells a text has at most 255 nodes, and its tree their leftmost leaves.
 pub spelled-few : {s : List ℕ} {r : Run} → Spells r s → size r ≤ 255
@@ -69,6 +74,16 @@ opened-few (texts q t w v) = (spelled-few w, spelled-few v)
 opened-few (deck q t d w v ok) = (spelled-few w, spelled-few v)
 opened-few (texts-refused q t denied) = (omega arith, omega arith)
 opened-few (deck-refused q t d denied) = (omega arith, omega arith)
+
+-- A session that calls hand over from there has the state of the history on these runs, and their trees.
+module _ {o : Outcome} {r p : Run} {rows : List Row} (on : OpenedOn o r p rows) {s : Session} {h : List Event} (w : Reached o s h) where
+  pub reached-state : view s ≡ stateOf (startWith (treeOf r) (treeOf p) rows) h
+  reached-state = by-history w ∙ ap (λ (y : State). stateOf y h) (opened-state on)
+
+  pub reached-trees : (s .q ≡ treeOf r) × (s .t ≡ treeOf p)
+  reached-trees =
+      let stay = trees-stay (startWith (treeOf r) (treeOf p) rows) h in
+      (ap (λ (y : State). y .q) reached-state ∙ stay .0, ap (λ (y : State). y .t) reached-state ∙ stay .1)
 
 -- Every opening is one of these.
 both-accepted : (q t : List ℕ) (x y : Reading) → reading q ≡ x → reading t ≡ y → bothOf x y .answer ≡ Accepted → (r : Run) × (p : Run) × (Spells r q × Spells p t)

@@ -38,15 +38,15 @@ module _ {Q T : List ℕ} {s : List Pair} (seed : Seed Q T s) where
   alone-no-areas alone (x ∷ xs) h = absurd (alone-no-area alone x (h .each x .0 (List·Memᴰ·head refl)))
 
 -- Spans of lists that have a node in common share it.
-shared : {l xs ys : List ℕ} {x y : ℕ} → x ∈ xs → y ∈ ys → y ≡ x → ((z : ℕ) → Span l xs z → ¬ Span l ys z) → ⊥
-shared {l} {ys = ys} {x = x} m n same apart = apart x (inl m) (subst (Span l ys) same (inl n))
+shared : (l : List ℕ) {xs ys : List ℕ} {x y : ℕ} → x ∈ xs → y ∈ ys → y ≡ x → ((z : ℕ) → Span l xs z → ¬ Span l ys z) → ⊥
+shared l {ys = ys} {x = x} m n same apart = apart x (inl m) (subst (Span l ys) same (inl n))
 
 -- So do those of two seeds on the only node.
 pub alone-not-chainable : {Q T : List ℕ} {s u : List Pair} → Alone Q T → Seed Q T s → Seed Q T u → Chainable Q T s u → ⊥
-alone-not-chainable alone a b c =
+alone-not-chainable {Q} {T} alone a b c =
     let n = root-nodes a in
     let m = root-nodes b in
     ⊎-elim
-    (λ one. shared (Memᴰ·map qOf (root-in a)) (Memᴰ·map qOf (root-in b)) (omega arith) (c .apart-q))
-    (λ one. shared (Memᴰ·map tOf (root-in a)) (Memᴰ·map tOf (root-in b)) (omega arith) (c .apart-t))
+    (λ one. shared Q (Memᴰ·map qOf (root-in a)) (Memᴰ·map qOf (root-in b)) (omega arith) (c .apart-q))
+    (λ one. shared T (Memᴰ·map tOf (root-in a)) (Memᴰ·map tOf (root-in b)) (omega arith) (c .apart-t))
     alone
