@@ -15,9 +15,10 @@ use Rattle.tree.specs.Run.{Run}
 use Rattle.tree.specs.Run.Run.{end}
 use Rattle.tree.specs.Reading.{leavesOf, treeOf}
 use Rattle.tree.specs.declared.Tree.{Tree}
+use Rattle.seed.specs.Paths.{RootAlone}
 use Rattle.seed.specs.Area.{Box}
 use Rattle.seed.specs.AreaList.{bytesOf}
-use Rattle.seed.proofs.RootAlone.{Alone, alone-no-areas}
+use Rattle.seed.proofs.RootAlone.{alone-no-areas}
 use Rattle.area.specs.declared.Listed.{Listed}
 use Rattle.table.specs.Rows.{Row}
 use Rattle.table.specs.Table.{rowsOf}
@@ -40,11 +41,11 @@ use Rattle.demand.proofs.Areas.{row-seed, row-areas}
 use Rattle.demand.proofs.CallGrounds.{look-grounds}
 
 -- The run without items spells the empty text, and its tree has one node.
-one-leaf : {x : Tree} {r : Run} → x ≡ treeOf r → r ≡ end → length (leavesOf x) ≡ 1
+one-leaf : {x : Tree} {r : Run} → x ≡ treeOf r → r ≡ end → RootAlone (leavesOf x)
 one-leaf is empty = ap (λ (y : Tree). length (leavesOf y)) (is ∙ ap treeOf empty)
 
 module _ {o : Outcome} {r p : Run} {rows : List Row} (on : OpenedOn o r p rows) (empty : (r ≡ end) ⊎ (p ≡ end)) {s : Session} {h : List Event} (w : Reached o s h) where
-  alone : Alone (leavesOf (s .q)) (leavesOf (s .t))
+  alone : RootAlone (leavesOf (s .q)) ⊎ RootAlone (leavesOf (s .t))
   alone = let trees = reached-trees on w in ⊎-elim (λ e. inl (one-leaf (trees .0) e)) (λ e. inr (one-leaf (trees .1) e)) empty
 
   -- Listing the areas of a number that was given out is accepted on an output of any length, answers 0 and writes nothing.

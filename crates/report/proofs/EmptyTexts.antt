@@ -1,15 +1,16 @@
 -- Inputs with an empty text (document 02, f): a text that is missing is an empty one, so that an input which ends before its deck is told by ground 5.
-use mathlib.Core.Path.{_≡_, refl}
+use mathlib.Core.Path.{_≡_, refl, sym}
 use mathlib.Core.Bool.{Bool, true, false, cond}
-use mathlib.Core.List.{List, [], _∷_, flatten}
+use mathlib.Core.List.{List, [], _∷_, flatten, List·Memᴰ·head, List·Memᴰ·tail}
 use Prim.Native.Nat.{ℕ}
 use lib.Dec.{eqb}
 use lib.ListN.{replicate}
-use Rattle.answer.proofs.Denied.{clash}
+use borrow.Author.Tests.{eqb-true}
 use Rattle.write.specs.Decimal.{bytes, digits}
 use Rattle.tree.specs.Run.{Run}
 use Rattle.tree.specs.Reading.{Spells, badLength, reading}
 use Rattle.tree.proofs.Grounds.{accepted-exactly}
+use Rattle.seed.specs.Seed.{_∈_}
 use Rattle.seed.specs.Tab.{tab}
 use Rattle.optimum.specs.Key.{inMask, empty}
 use Rattle.optimum.specs.Best.{best}
@@ -23,23 +24,23 @@ use Rattle.lines.specs.Lines.{scoreLine, member, members, chainLine, resultLine
 use Rattle.report.specs.Input.{readBytes, ahead, behind, textQ, textT, deckBytes}
 use Rattle.report.specs.Report.{outcomeOf, linesOf}
 
--- Without a second line feed T is all that stands behind the first, and there is no deck.
-no-feed : (s : List ℕ) → ahead s ≡ s → behind s ≡ []
-unfolding ahead behind
-no-feed [] e = refl
-no-feed (b ∷ s) e = go (eqb b 10) e (no-feed s)
+-- Nothing stands behind the first line feed where there is none.
+no-feed : (s : List ℕ) → ¬ (10 ∈ s) → behind s ≡ []
+unfolding behind
+no-feed [] none = refl
+no-feed (b ∷ s) none = go (eqb b 10) refl (no-feed s (λ m. none (List·Memᴰ·tail m)))
   where
-    go : (t : Bool) → cond t [] (b ∷ ahead s) ≡ b ∷ s → (ahead s ≡ s → behind s ≡ []) → cond t s (behind s) ≡ []
-    go true f rest = clash (cc)
-    go false f rest = let same : ahead s ≡ s = cc in rest same
+    go : (t : Bool) → eqb b 10 ≡ t → behind s ≡ [] → cond t s (behind s) ≡ []
+    go true e rest = absurd (none (List·Memᴰ·head (sym (eqb-true b 10 e))))
+    go false e rest = rest
 
-pub ends-before-deck : (input : List ℕ) → textT input ≡ behind (readBytes input) → deckBytes input ≡ []
-ends-before-deck input e = no-feed (behind (readBytes input)) e
-
--- Where the texts are good, such an input is refused on 5.
+-- Where the texts are good, an input that ends before its deck is refused on 5, and so is one without a second line feed.
 pub no-deck : (input : List ℕ) {r p : Run} → Spells r (textQ input) → Spells p (textT input) → deckBytes input ≡ [] → linesOf input ≡ bytes "refused 5\n"
 unfolding linesOf outcomeOf deckOpening dealOf dealAnswer bothRead deckAnswer deckReading badLayout refusalLine placed digits
 no-deck input {r} {p} q t none = rw (accepted-exactly (textQ input) r .1 q, accepted-exactly (textT input) p .1 t, none)
+
+pub no-second-feed : (input : List ℕ) {r p : Run} → Spells r (textQ input) → Spells p (textT input) → ¬ (10 ∈ behind (readBytes input)) → linesOf input ≡ bytes "refused 5\n"
+no-second-feed input q t none = no-deck input q t (no-feed (behind (readBytes input)) none)
 
 -- Inputs with empty texts, computed from the definitions: none at all, one text with and without its line feed, both line feeds and no deck, a T of 256 dots
 -- behind an empty Q, a bracket never closed in front of nothing, and two empty texts with an empty deck.

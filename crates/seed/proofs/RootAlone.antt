@@ -6,16 +6,13 @@ use mathlib.Core.List.{List, [], _∷_, List·Memᴰ·head, Memᴰ·map}
 use Prim.Native.Nat.{ℕ, _<_}
 use native.Mathlib.Omega.{arith}
 use lib.ListN.{length}
+use Rattle.seed.specs.Paths.{RootAlone}
 use Rattle.seed.specs.Seed.{_∈_, Seed, qOf, tOf, lastPair, Span}
 use Rattle.seed.specs.Chain.{Chainable}
 use Rattle.seed.specs.Area.{Box, FitsAt, Area, Areas}
 use Rattle.seed.specs.Pairs.{pairOf}
 use Rattle.seed.specs.declared.Pair.{Pair}
 use Rattle.seed.proofs.Lists.{last-in}
-
--- One of two trees has one node.
-abbrev pub Alone : List ℕ → List ℕ → Type 0
-Alone Q T = (length Q ≡ 1) ⊎ (length T ≡ 1)
 
 module _ {Q T : List ℕ} {s : List Pair} (seed : Seed Q T s) where
   root-in : lastPair s ∈ s
@@ -25,15 +22,15 @@ module _ {Q T : List ℕ} {s : List Pair} (seed : Seed Q T s) where
   root-nodes = seed .nodes (lastPair s) root-in
 
   -- Nothing lies properly below the only node.
-  no-fit : Alone Q T → (i j : ℕ) → FitsAt Q T s i j → ⊥
+  no-fit : RootAlone Q ⊎ RootAlone T → (i j : ℕ) → FitsAt Q T s i j → ⊥
   no-fit alone i j f = ⊎-elim (λ one. omega (arith, root-nodes, f .below-q)) (λ one. omega (arith, root-nodes, f .below-t)) alone
 
-  pub alone-no-area : Alone Q T → (x : Box) → Area Q T s x → ⊥
+  pub alone-no-area : RootAlone Q ⊎ RootAlone T → (x : Box) → Area Q T s x → ⊥
   alone-no-area alone x h =
       let box = h .filled in
       no-fit alone (x .a) (x .c) (box .all (x .a) (x .c) (omega arith, box .wide, omega arith, box .high))
 
-  pub alone-no-areas : Alone Q T → (xs : List Box) → Areas Q T s xs → xs ≡ []
+  pub alone-no-areas : RootAlone Q ⊎ RootAlone T → (xs : List Box) → Areas Q T s xs → xs ≡ []
   alone-no-areas alone [] h = refl
   alone-no-areas alone (x ∷ xs) h = absurd (alone-no-area alone x (h .each x .0 (List·Memᴰ·head refl)))
 
@@ -42,7 +39,7 @@ shared : (l : List ℕ) {xs ys : List ℕ} {x y : ℕ} → x ∈ xs → y ∈ ys
 shared l {ys = ys} {x = x} m n same apart = apart x (inl m) (subst (Span l ys) same (inl n))
 
 -- So do those of two seeds on the only node.
-pub alone-not-chainable : {Q T : List ℕ} {s u : List Pair} → Alone Q T → Seed Q T s → Seed Q T u → Chainable Q T s u → ⊥
+pub alone-not-chainable : {Q T : List ℕ} {s u : List Pair} → RootAlone Q ⊎ RootAlone T → Seed Q T s → Seed Q T u → Chainable Q T s u → ⊥
 alone-not-chainable {Q} {T} alone a b c =
     let n = root-nodes a in
     let m = root-nodes b in
