@@ -1,21 +1,21 @@
--- The numbered grounds for turning a call down (document 01), and what an answer says by them.
+-- The numbered grounds for turning a call down (document 01, and 24 of document 02), and what an answer says by them.
 use mathlib.Core.Bool.{Bool, true, false}
 use Prim.Native.Nat.{ℕ}
 use Rattle.answer.specs.declared.Ground.{Ground}
-use Rattle.answer.specs.declared.Ground.the-variants.{TextLength, UnknownByte, ClosesNothing, NeverClosed, DeckLayout, PairIndex, PairReachedTwice, PairNeverReached, NumberNotGiven, PresenceAsAsked, ScoreRange, NoPairs, SeedLimit, PairLimit, OutsideTree, NotRising, AncestryDiffers, LastNotAncestor, BorderUnpaired, ChangeLimit, ScratchShort, OutputShort}
+use Rattle.answer.specs.declared.Ground.the-variants.{TextLength, UnknownByte, ClosesNothing, NeverClosed, DeckLayout, PairIndex, PairReachedTwice, PairNeverReached, NumberNotGiven, PresenceAsAsked, ScoreRange, NoPairs, SeedLimit, PairLimit, OutsideTree, NotRising, AncestryDiffers, LastNotAncestor, BorderUnpaired, ChangeLimit, ScratchShort, OutputShort, ClosesOtherKind}
 use Rattle.answer.specs.declared.Place.{Place}
 use Rattle.answer.specs.declared.Answer.{Answer}
 use Rattle.answer.specs.declared.Answer.the-variants.{Accepted, Refused}
 
--- The number of a ground.
+-- The number of a ground. The order in which a call meets its grounds is not that of their numbers: 24 comes after 4.
 abbrev pub numberOf : Ground → ℕ
 -- A text has length above 255 (document 02, f, where 01 had 0 too).
 numberOf TextLength = 1
--- A byte is not dot, "(" or ")".
+-- A byte is neither unpaired nor a bracket (document 02, b, where 01 had dot, "(" and ")").
 numberOf UnknownByte = 2
--- A ")" closes nothing.
+-- A closing bracket closes nothing.
 numberOf ClosesNothing = 3
--- A "(" is never closed.
+-- An opening bracket is never closed.
 numberOf NeverClosed = 4
 -- A deck is under 4 bytes, or its counts, zero byte or length break the layout.
 numberOf DeckLayout = 5
@@ -53,6 +53,8 @@ numberOf ChangeLimit = 20
 numberOf ScratchShort = 21
 -- The output is shorter than what is to be written.
 numberOf OutputShort = 22
+-- A closing bracket has a partner of another kind (document 02, b).
+numberOf ClosesOtherKind = 24
 
 -- What an answer says: the call is accepted, or it is refused on the ground of this number at this place.
 pub data Said : Type 0 where

@@ -3,7 +3,7 @@ ghost use mathlib.Core.Path.{_≡_};
 ghost use Rattle.answer.specs.Answer.{numberOf};
 ghost use Rattle.answer.specs.declared.Answer.the-variants as answer;
 
-// The grounds for turning a call down, in the order of their numbers.
+// The grounds for turning a call down, by rising number. A call is judged by them in the order of the papers, which is not that of the numbers.
 pub enum Ground {
     TextLength,
     UnknownByte,
@@ -27,6 +27,7 @@ pub enum Ground {
     ChangeLimit,
     ScratchShort,
     OutputShort,
+    ClosesOtherKind,
 }
 
 // Where a ground was met: a byte position of Q or of T, counted from 0, a seed number, or nowhere that could be named.
@@ -76,5 +77,6 @@ pub fn number(ground: Ground) -> usize
         Ground::ChangeLimit => 20,
         Ground::ScratchShort => 21,
         Ground::OutputShort => 22,
+        Ground::ClosesOtherKind => 24,
     }
 }

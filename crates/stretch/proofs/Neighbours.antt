@@ -7,12 +7,13 @@ use mathlib.Core.List.{List, [], _∷_, _++_, append-assoc, append-nil, head-eq-
 use lib.ListN.{length, length-append}
 use Rattle.tree.specs.Run.{Run, spell, size, join}
 use Rattle.tree.specs.Run.Run.{end, dot, pair}
-use Rattle.tree.specs.Reading.{meaningOf, Meant, Runs, runs}
+use Rattle.character.specs.Character.{roleOf}
+use Rattle.tree.specs.Reading.{Meant, Runs, runs}
 use Rattle.tree.specs.Reading.Runs.{last, more}
 use Rattle.stretch.specs.inner.Scan.{endsOf}
 use Rattle.stretch.specs.Stretch.{Siblings}
 use Rattle.stretch.specs.Stretch.Siblings.{here, behind-dot, into, behind-pair}
-use Rattle.tree.specs.declared.character.Meaning.the-variants.{Closing}
+use Rattle.character.specs.declared.Role.the-variants.{Closing}
 use Rattle.answer.proofs.Denied.{clash}
 use Rattle.tree.proofs.Splits.{size-spell}
 use Rattle.tree.proofs.Spelling.{read-back, read-spell, before}
@@ -74,10 +75,10 @@ starts : (y r : Run) (q : List ℕ) → Meant y → Meant r → spell r ≡ spel
 starts y r q my mr e = before-last y (runs q) r (sym (read-back y my q) ∙ ap runs (sym e) ∙ read-spell r mr)
 
 -- The text of a run that is not empty does not begin with a closing byte.
-no-closing : (y : Run) → Meant y → 0 < size y → (c : ℕ) (s q : List ℕ) → meaningOf c ≡ Closing → c ∷ s ≡ spell y ++ q → ⊥
+no-closing : (y : Run) → Meant y → 0 < size y → (c : ℕ) (s q : List ℕ) → roleOf c ≡ Closing → c ∷ s ≡ spell y ++ q → ⊥
 no-closing end m h c s q mc e = omega arith
-no-closing (dot d y) m h c s q mc e = let k = ap meaningOf (head-eq-of-cons-eq e) in let f = m .0 in clash (cc)
-no-closing (pair o i d y) m h c s q mc e = let k = ap meaningOf (head-eq-of-cons-eq e) in let f = m .0 in clash (cc)
+no-closing (dot d y) m h c s q mc e = let k = ap roleOf (head-eq-of-cons-eq e) in let f = m .0 in clash (cc)
+no-closing (pair o i d y) m h c s q mc e = let k = ap roleOf (head-eq-of-cons-eq e) in let f = m .0 in clash (cc)
 
 abbrev Found : Run → Run → Type 0
 Found y r = (p q : List ℕ) → spell r ≡ p ++ (spell y ++ q) → Siblings y r (ends p) (length p)
@@ -88,9 +89,9 @@ module _ (y : Run) (my : Meant y) (h : 0 < size y) (o : ℕ) (i : Run) (c : ℕ)
   after-pair rec [] q e x ex = absurd (no-closing y my h c (spell r) q (m .2) e)
   after-pair rec (d ∷ t) q e x ex =
       let w = rec t q (tail-eq-of-cons-eq e) in
-      let ed : meaningOf d ≡ Closing = ap meaningOf (sym (head-eq-of-cons-eq e)) ∙ m .2 in
+      let ed : roleOf d ≡ Closing = ap roleOf (sym (head-eq-of-cons-eq e)) ∙ m .2 in
       let a : size i + suc (ends t) ≡ ends (x ∷ (spell i ++ d ∷ t)) =
-      omega (arith, ap endsOf (ap meaningOf ex ∙ m .0), ap endsOf ed, weight-append endsOf (spell i) (d ∷ t), ends-spell i (m .1)) in
+      omega (arith, ap endsOf (ap roleOf ex ∙ m .0), ap endsOf ed, weight-append endsOf (spell i) (d ∷ t), ends-spell i (m .1)) in
       let n : suc (length (spell i) + suc (length t)) ≡ length (x ∷ (spell i ++ d ∷ t)) = omega (arith, length-append (spell i) (d ∷ t)) in
       subst₂ (Siblings y (pair o i c r)) a n (behind-pair w)
 
@@ -98,13 +99,13 @@ module _ (y : Run) (my : Meant y) (h : 0 < size y) (o : ℕ) (i : Run) (c : ℕ)
   across : (p t u q : List ℕ) → spell i ≡ p ++ t → spell y ≡ t ++ u → 0 < length u → c ∷ spell r ≡ u ++ q → ⊥
   across p t [] q e f l g = omega arith
   across p t (d ∷ u) q e f l g =
-      let w = placed-closes t d u (placed y my t d u f) (ap meaningOf (sym (head-eq-of-cons-eq g)) ∙ m .2) in
+      let w = placed-closes t d u (placed y my t d u f) (ap roleOf (sym (head-eq-of-cons-eq g)) ∙ m .2) in
       let v = placed-closed (p ++ w .ahead) (w .byte) (spell (w .run)) (placed i (m .1) (p ++ w .ahead) (w .byte) (spell (w .run)) (e ∙ ap (λ (k : List ℕ). p ++ k) (w .split) ∙ sym (append-assoc p (w .ahead) (w .byte ∷ spell (w .run))))) (w .opens) in
       not-closed (spell (w .run)) (w .run) (read-spell (w .run) (w .meant)) v
 
   inside-pair : Found y i → (p q : List ℕ) → spell i ≡ p ++ (spell y ++ q) → (x : ℕ) → x ≡ o → Siblings y (pair o i c r) (ends (x ∷ p)) (length (x ∷ p))
   inside-pair rec p q e x ex =
-      let a : ends p ≡ ends (x ∷ p) = omega (arith, ap endsOf (ap meaningOf ex ∙ m .0)) in
+      let a : ends p ≡ ends (x ∷ p) = omega (arith, ap endsOf (ap roleOf ex ∙ m .0)) in
       subst (λ (k : ℕ). Siblings y (pair o i c r) k (suc (length p))) a (into (rec p q e))
 
   -- The run's text ends before the pair's closing byte, or at it.
@@ -127,7 +128,7 @@ neighbours y my h end m p q e = absurd (omega (arith, ap length e, length-append
 neighbours y my h (dot d r) m [] q e = let w = starts y (dot d r) q my m e in here (w .0) (w .1)
 neighbours y my h (dot d r) m (x ∷ p) q e =
     let w = neighbours y my h r (m .1) p q (tail-eq-of-cons-eq e) in
-    let a : suc (ends p) ≡ ends (x ∷ p) = omega (arith, ap endsOf (ap meaningOf (sym (head-eq-of-cons-eq e)) ∙ m .0)) in
+    let a : suc (ends p) ≡ ends (x ∷ p) = omega (arith, ap endsOf (ap roleOf (sym (head-eq-of-cons-eq e)) ∙ m .0)) in
     subst (λ (k : ℕ). Siblings y (dot d r) k (suc (length p))) a (behind-dot w)
 neighbours y my h (pair o i c r) m [] q e = let w = starts y (pair o i c r) q my m e in here (w .0) (w .1)
 neighbours y my h (pair o i c r) m (x ∷ p) q e =

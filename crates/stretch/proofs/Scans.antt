@@ -12,17 +12,18 @@ use lib.Dec.{leb}
 use borrow.Author.Tests.{le-leb, lt-leb, lt-ltb, le-ltb}
 use Rattle.tree.specs.Run.{Run, spell, size}
 use Rattle.tree.specs.Run.Run.{end, dot, pair}
-use Rattle.tree.specs.Reading.{meaningOf, Meant}
+use Rattle.character.specs.Character.{roleOf}
+use Rattle.tree.specs.Reading.{Meant}
 use Rattle.stretch.specs.inner.Scan.{endsOf, ownBytes, counted, unmoved, scanTo}
-use Rattle.tree.specs.declared.character.Meaning.{Meaning}
-use Rattle.tree.specs.declared.character.Meaning.the-variants.{Unpaired, Opening, Closing, Refused}
+use Rattle.character.specs.declared.Role.{Role}
+use Rattle.character.specs.declared.Role.the-variants.{Unpaired, Opening, Closing, Refused}
 use Rattle.stretch.specs.declared.search.Scan.{Scan}
 use Rattle.tree.proofs.Leaves.{lt-or-le}
 
 -- What the bytes of a text weigh together, each by its meaning.
-abbrev pub weight : (Meaning → ℕ) → List ℕ → ℕ
+abbrev pub weight : (Role → ℕ) → List ℕ → ℕ
 weight f [] = 0
-weight f (x ∷ s) = f (meaningOf x) + weight f s
+weight f (x ∷ s) = f (roleOf x) + weight f s
 
 -- The nodes that end in a text. A node's number is that of the nodes that end before the byte that ends it.
 abbrev pub ends : List ℕ → ℕ
@@ -32,7 +33,7 @@ ends s = weight endsOf s
 abbrev bytes : List ℕ → ℕ
 bytes s = weight ownBytes s
 
-pub weight-append : (f : Meaning → ℕ) (a b : List ℕ) → weight f (a ++ b) ≡ weight f a + weight f b
+pub weight-append : (f : Role → ℕ) (a b : List ℕ) → weight f (a ++ b) ≡ weight f a + weight f b
 weight-append f [] b = omega arith
 weight-append f (x ∷ a) b = omega (arith, weight-append f a b)
 
@@ -48,13 +49,13 @@ bytes-spell (dot c r) m = omega (arith, ap ownBytes (m .0), bytes-spell r (m .1)
 bytes-spell (pair o i c r) m =
     omega (arith, ap ownBytes (m .0), ap ownBytes (m .2), weight-append ownBytes (spell i) (c ∷ spell r), length-append (spell i) (c ∷ spell r), bytes-spell i (m .1), bytes-spell r (m .3))
 
-pub one-end : (m : Meaning) → endsOf m ≤ 1
+pub one-end : (m : Role) → endsOf m ≤ 1
 one-end Unpaired = omega arith
 one-end Opening = omega arith
 one-end Closing = omega arith
 one-end Refused = omega arith
 
-pub two-bytes : (m : Meaning) → ownBytes m ≤ 2 * endsOf m
+pub two-bytes : (m : Role) → ownBytes m ≤ 2 * endsOf m
 two-bytes Unpaired = omega arith
 two-bytes Opening = omega arith
 two-bytes Closing = omega arith
@@ -62,7 +63,7 @@ two-bytes Refused = omega arith
 
 ends-few : (s : List ℕ) → ends s ≤ length s
 ends-few [] = omega arith
-ends-few (x ∷ s) = omega (arith, one-end (meaningOf x), ends-few s)
+ends-few (x ∷ s) = omega (arith, one-end (roleOf x), ends-few s)
 
 -- A part of a text that spells the nodes a to b.
 pub record Spelled (s : List ℕ) (a b : ℕ) : Type 0 where
@@ -124,14 +125,14 @@ module _ (a : ℕ) where
   scanned-high : (c : Scan) (p : List ℕ) → a ≤ c .nodes → scanned a c p .width ≡ c .width + bytes p
   scanned-high c [] h = omega arith
   scanned-high c (x ∷ p) h =
-      omega (arith, scanned-high (counted a x c) p (omega arith), ap (λ (t : Bool). cond t (ownBytes (meaningOf x)) 0) (le-leb a (c .nodes) h))
+      omega (arith, scanned-high (counted a x c) p (omega arith), ap (λ (t : Bool). cond t (ownBytes (roleOf x)) 0) (le-leb a (c .nodes) h))
 
   scanned-low : (c : Scan) (p : List ℕ) → c .nodes + ends p ≤ a → scanned a c p .width ≡ c .width
   scanned-low c [] h = refl
   scanned-low c (x ∷ p) h =
-      omega (arith, scanned-low (counted a x c) p (omega arith), none (meaningOf x) (leb a (c .nodes)) (λ l. lt-leb a (c .nodes) (omega arith)))
+      omega (arith, scanned-low (counted a x c) p (omega arith), none (roleOf x) (leb a (c .nodes)) (λ l. lt-leb a (c .nodes) (omega arith)))
     where
-      none : (m : Meaning) (t : Bool) → (0 < endsOf m → t ≡ false) → cond t (ownBytes m) 0 ≡ 0
+      none : (m : Role) (t : Bool) → (0 < endsOf m → t ≡ false) → cond t (ownBytes m) 0 ≡ 0
       none m true f = ⊎-elim (λ h. absurd (true≢false (f h))) (λ h. omega (arith, two-bytes m)) (lt-or-le 0 (endsOf m))
       none m false f = refl
 
@@ -166,7 +167,7 @@ module _ (a : ℕ) where
     scan-few c [] h = h
     scan-few c (x ∷ s) h = ⊎-elim
         (λ l. omega (arith, ap (λ (k : Scan). k .nodes) (scan-stop c (x ∷ s) l)))
-        (λ l. omega (arith, ap (λ (k : Scan). k .nodes) (scan-next c x s l), scan-few (counted a x c) s (omega (arith, one-end (meaningOf x)))))
+        (λ l. omega (arith, ap (λ (k : Scan). k .nodes) (scan-next c x s l), scan-few (counted a x c) s (omega (arith, one-end (roleOf x)))))
         (lt-or-le b (c .nodes))
 
     -- On a text with a part that spells the nodes a to b it passes all before the part, and the part.
@@ -248,18 +249,18 @@ module _ (a : ℕ) where
           }
 
 -- One byte, in each case of the code.
-module _ (c : Scan) (a x : ℕ) (m : Meaning) (is : m ≡ meaningOf x) (e : ℕ) (ended : e ≡ endsOf m) where
+module _ (c : Scan) (a x : ℕ) (m : Role) (is : m ≡ roleOf x) (e : ℕ) (ended : e ≡ endsOf m) where
   nodes-after : c .nodes + e ≡ counted a x c .nodes
   nodes-after = ap (λ (k : ℕ). c .nodes + k) (ended ∙ ap endsOf is)
 
   pub count-low : c .nodes < a → _≡_ {A = Scan} (record { at = c .at + 1; nodes = c .nodes + e; width = c .width }) (counted a x c)
   count-low h =
-      let w : c .width ≡ counted a x c .width = omega (arith, ap (λ (t : Bool). cond t (ownBytes (meaningOf x)) 0) (lt-leb a (c .nodes) h)) in
+      let w : c .width ≡ counted a x c .width = omega (arith, ap (λ (t : Bool). cond t (ownBytes (roleOf x)) 0) (lt-leb a (c .nodes) h)) in
       λ j. record { at = c .at + 1; nodes = nodes-after j; width = w j }
 
   pub count-high : a ≤ c .nodes → (n : ℕ) → n ≡ ownBytes m → _≡_ {A = Scan} (record { at = c .at + 1; nodes = c .nodes + e; width = c .width + n }) (counted a x c)
   count-high h n own =
-      let w : c .width + n ≡ counted a x c .width = omega (arith, own ∙ ap ownBytes is, ap (λ (t : Bool). cond t (ownBytes (meaningOf x)) 0) (le-leb a (c .nodes) h)) in
+      let w : c .width + n ≡ counted a x c .width = omega (arith, own ∙ ap ownBytes is, ap (λ (t : Bool). cond t (ownBytes (roleOf x)) 0) (le-leb a (c .nodes) h)) in
       λ j. record { at = c .at + 1; nodes = nodes-after j; width = w j }
 
 -- The loop that scans: what it knows at byte k, and each way on.
@@ -284,15 +285,15 @@ module _ (s : List ℕ) (a b : ℕ) where
     pub scan-goes-on : k < length s → c .nodes ≤ b → (d : Scan) → d ≡ counted a (getD s k 0) c → Scanning s a b d (k + 1)
     scan-goes-on lt few d e =
         let x : ℕ = getD s k 0 in
-        let own : cond (leb a (c .nodes)) (ownBytes (meaningOf x)) 0 ≤ 2 = at-most (meaningOf x) (leb a (c .nodes)) in
+        let own : cond (leb a (c .nodes)) (ownBytes (roleOf x)) 0 ≤ 2 = at-most (roleOf x) (leb a (c .nodes)) in
         record {
           inside = omega arith;
           rest = inv .rest ∙ ap (scanTo a b c) (drop-cons s k 0 lt) ∙ scan-next a b c x (drop (suc k) s) few ∙ ap₂ (λ (z : Scan) (j : ℕ). scanTo a b z (drop j s)) (sym e) (sym (add-one k));
-          nodes-few = omega (arith, ap (λ (z : Scan). z .nodes) e, one-end (meaningOf x), inv .nodes-few);
+          nodes-few = omega (arith, ap (λ (z : Scan). z .nodes) e, one-end (roleOf x), inv .nodes-few);
           width-few = omega (arith, ap (λ (z : Scan). z .width) e, inv .width-few);
           here = omega (arith, ap (λ (z : Scan). z .at) e, inv .here);
         }
       where
-        at-most : (m : Meaning) (t : Bool) → cond t (ownBytes m) 0 ≤ 2
+        at-most : (m : Role) (t : Bool) → cond t (ownBytes m) 0 ≤ 2
         at-most m true = omega (arith, two-bytes m, one-end m)
         at-most m false = omega arith

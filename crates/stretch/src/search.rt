@@ -3,8 +3,8 @@ use answer::Answer;
 use answer::Ground;
 use answer::Place;
 use answer::refused;
-use tree::character::Meaning;
-use tree::character::meaning_of;
+use tree::character::Role;
+use tree::character::role_of;
 use tree::read;
 ghost use mathlib.Core.Path.{_≡_};
 ghost use Prim.Native.Nat.{_≤_, _<_};
@@ -27,26 +27,26 @@ pub struct Located {
 }
 
 // How many nodes a byte ends.
-fn ends_of(meaning: Meaning) -> usize
+fn ends_of(meaning: Role) -> usize
     ensures { λ r. ⌜ r ≡ endsOf meaning ⌝ }
 {
-    match meaning {
-        Meaning::Unpaired => 1,
-        Meaning::Opening => 0,
-        Meaning::Closing => 1,
-        Meaning::Refused => 0,
+    match role {
+        Role::Unpaired => 1,
+        Role::Opening => 0,
+        Role::Closing => 1,
+        Role::Refused => 0,
     }
 }
 
 // How many bytes the node has that a byte ends.
-fn bytes_of(meaning: Meaning) -> usize
+fn bytes_of(meaning: Role) -> usize
     ensures { λ r. ⌜ r ≡ ownBytes meaning ⌝ }
 {
-    match meaning {
-        Meaning::Unpaired => 1,
-        Meaning::Opening => 0,
-        Meaning::Closing => 2,
-        Meaning::Refused => 0,
+    match role {
+        Role::Unpaired => 1,
+        Role::Opening => 0,
+        Role::Closing => 2,
+        Role::Refused => 0,
     }
 }
 
@@ -55,7 +55,7 @@ fn count_byte(c: Scan, a: usize, byte: u8) -> Scan
     requires { ⌜ (c .at < 4096) × (c .nodes < 4096) × (c .width < 4096) ⌝ }
     ensures { λ r. ⌜ r ≡ counted a byte c ⌝ }
 {
-    let meaning = meaning_of(byte);
+    let role = role_of(byte);
     let nodes = c.nodes + ends_of(meaning);
     if c.nodes < a {
         return Scan {

@@ -7,35 +7,35 @@ use native.Mathlib.Numerals.{add-one}
 use native.Mathlib.Omega.{arith}
 use mathlib.Core.List.{List}
 use lib.ListN.{length, getD, set, length-set}
-use Rattle.tree.specs.Reading.{meaningOf}
+use Rattle.character.specs.Character.{roleOf}
 use Rattle.tree.specs.inner.Building.{Ready, RunRead, closing, withNode, withLeaf, nodesPast, leavesPast, Down, Descended}
-use Rattle.tree.specs.declared.character.Meaning.{Meaning}
-use Rattle.tree.specs.declared.character.Meaning.the-variants.{Unpaired, Opening, Closing, Refused}
+use Rattle.character.specs.declared.Role.{Role}
+use Rattle.character.specs.declared.Role.the-variants.{Unpaired, Opening, Closing, Refused}
 use Rattle.tree.specs.declared.run.ReadTo.{ReadTo}
 use Rattle.tree.proofs.Leaves.{lt-or-le}
-use Rattle.tree.proofs.Meanings.{tag}
-use Rattle.tree.proofs.Growing.{beyond, closed-inside, fewer-nodes, item-end, item-other, item-dot, item-unclosed, item-closed, run-done, run-more}
+use Rattle.tree.proofs.Roles.{tag}
+use Rattle.tree.proofs.Growing.{beyond-refused, closed-inside, fewer-nodes, item-end, item-other, item-dot, item-unclosed, item-closed, run-done, run-more}
 
 -- No run begins where the bytes stop.
-pub none-at : (s : List ℕ) (p m : ℕ) (l : List ℕ) → (meaningOf (getD s p 0) ≡ Closing) ⊎ (meaningOf (getD s p 0) ≡ Refused) → RunRead s p m l (record { at = p; n = m }) l
+pub none-at : (s : List ℕ) (p m : ℕ) (l : List ℕ) → (roleOf (getD s p 0) ≡ Closing) ⊎ (roleOf (getD s p 0) ≡ Refused) → RunRead s p m l (record { at = p; n = m }) l
 none-at s p m l t =
     run-done s p m l (record { at = p; n = m }) l
-    (elim (lt-or-le p (length s)) [ inl b ↦ item-other s p m l b (meaningOf (getD s p 0)) refl (elim t [ inl e ↦ inl (ap tag e) | inr e ↦ inr (ap tag e) ]) | inr b ↦ item-end s p m l b ])
+    (elim (lt-or-le p (length s)) [ inl b ↦ item-other s p m l b (roleOf (getD s p 0)) refl (elim t [ inl e ↦ inl (ap tag e) | inr e ↦ inr (ap tag e) ]) | inr b ↦ item-end s p m l b ])
     refl
 
 module _ (s : List ℕ) (at n : ℕ) (left : List ℕ) where
-  abbrev Byte : ℕ → Meaning
-  Byte k = meaningOf (getD s (at + k) 0)
+  abbrev Byte : ℕ → Role
+  Byte k = roleOf (getD s (at + k) 0)
 
-  nodes-next : (k : ℕ) {m : Meaning} → Byte k ≡ m → nodesPast s at n (k + 1) ≡ withNode m (nodesPast s at n k)
+  nodes-next : (k : ℕ) {m : Role} → Byte k ≡ m → nodesPast s at n (k + 1) ≡ withNode m (nodesPast s at n k)
   unfolding nodesPast
-  nodes-next k e = rw (add-one k) (ap (λ (x : Meaning). withNode x (nodesPast s at n k)) e)
+  nodes-next k e = rw (add-one k) (ap (λ (x : Role). withNode x (nodesPast s at n k)) e)
 
-  leaves-next : (k : ℕ) {m : Meaning} → Byte k ≡ m → leavesPast s at n left (k + 1) ≡ withLeaf m (nodesPast s at n k) (leavesPast s at n left k)
+  leaves-next : (k : ℕ) {m : Role} → Byte k ≡ m → leavesPast s at n left (k + 1) ≡ withLeaf m (nodesPast s at n k) (leavesPast s at n left k)
   unfolding leavesPast
-  leaves-next k e = rw (add-one k) (ap (λ (x : Meaning). withLeaf x (nodesPast s at n k) (leavesPast s at n left k)) e)
+  leaves-next k e = rw (add-one k) (ap (λ (x : Role). withLeaf x (nodesPast s at n k) (leavesPast s at n left k)) e)
 
-  with-few : (m : Meaning) (x : ℕ) → withNode m x ≤ suc x
+  with-few : (m : Role) (x : ℕ) → withNode m x ≤ suc x
   with-few Unpaired x = omega arith
   with-few Opening x = omega arith
   with-few Closing x = omega arith
@@ -46,7 +46,7 @@ module _ (s : List ℕ) (at n : ℕ) (left : List ℕ) where
   nodes-few zero = omega arith
   nodes-few (suc k) = omega (arith, nodes-few k, with-few (Byte k) (nodesPast s at n k))
 
-  with-long : (m : Meaning) (x : ℕ) (l : List ℕ) → length (withLeaf m x l) ≡ length l
+  with-long : (m : Role) (x : ℕ) (l : List ℕ) → length (withLeaf m x l) ≡ length l
   with-long Unpaired x l = length-set l x x
   with-long Opening x l = refl
   with-long Closing x l = refl
@@ -78,13 +78,13 @@ module _ (s : List ℕ) (at n : ℕ) (left : List ℕ) where
     pub pass-long : length l ≡ length left
     pass-long = ap length (h .written) ∙ leaves-long (h .bytes)
 
-    here-is : {q : Meaning} → meaningOf (getD s i 0) ≡ q → Byte (h .bytes) ≡ q
-    here-is e = ap (λ (j : ℕ). meaningOf (getD s j 0)) (sym (h .passed)) ∙ e
+    here-is : {q : Role} → roleOf (getD s i 0) ≡ q → Byte (h .bytes) ≡ q
+    here-is e = ap (λ (j : ℕ). roleOf (getD s j 0)) (sym (h .passed)) ∙ e
 
     down-more : (Byte (h .bytes) ≡ Unpaired) ⊎ (Byte (h .bytes) ≡ Opening) → Down s at (h .bytes + 1)
     down-more t j b = elim (lt-or-le j (h .bytes)) [ inl g ↦ h .down j g | inr g ↦ (let e : h .bytes ≡ j = omega arith in subst (λ (k : ℕ). (Byte k ≡ Unpaired) ⊎ (Byte k ≡ Opening)) e t) ]
 
-    pub pass-dot : i < length s → meaningOf (getD s i 0) ≡ Unpaired → Passed (i + 1) (m + 1) (set l m m)
+    pub pass-dot : i < length s → roleOf (getD s i 0) ≡ Unpaired → Passed (i + 1) (m + 1) (set l m m)
     pass-dot b e =
         record {
           bytes = h .bytes + 1;
@@ -95,7 +95,7 @@ module _ (s : List ℕ) (at n : ℕ) (left : List ℕ) where
           written = ap₂ (λ (x : List ℕ) (k : ℕ). set x k k) (h .written) (h .counted) ∙ sym (leaves-next (h .bytes) (here-is e));
         }
 
-    pub pass-open : i < length s → meaningOf (getD s i 0) ≡ Opening → Passed (i + 1) m l
+    pub pass-open : i < length s → roleOf (getD s i 0) ≡ Opening → Passed (i + 1) m l
     pass-open b e =
         record {
           bytes = h .bytes + 1;
@@ -106,11 +106,11 @@ module _ (s : List ℕ) (at n : ℕ) (left : List ℕ) where
           written = h .written ∙ sym (leaves-next (h .bytes) (here-is e));
         }
 
-    pub pass-stop : (meaningOf (getD s i 0) ≡ Closing) ⊎ (meaningOf (getD s i 0) ≡ Refused) → Descended s at n left (record { at = i; n = m }) l
+    pub pass-stop : (roleOf (getD s i 0) ≡ Closing) ⊎ (roleOf (getD s i 0) ≡ Refused) → Descended s at n left (record { at = i; n = m }) l
     pass-stop t = record { bytes = h .bytes; passed = h .passed; inside = h .inside; down = h .down; counted = h .counted; written = h .written; stops = t }
 
     pub pass-end : length s ≤ i → Descended s at n left (record { at = i; n = m }) l
-    pass-end b = pass-stop (inr (ap meaningOf (beyond s i b)))
+    pass-end b = pass-stop (inr (beyond-refused s i b))
 
   -- ---- up: the run from p on is read
 
@@ -154,13 +154,14 @@ module _ (s : List ℕ) (at n : ℕ) (left : List ℕ) where
         moved (omega (arith, h .reached)) (h .counted ∙ ap (nodesPast s at n) z) (ap (leavesPast s at n left) z) (h .read)
 
     -- What can be read behind a closing byte.
-    module _ (ready : Ready s at n left) (closed : closing (meaningOf (getD s (here .at) 0)) ≡ true) where
+    module _ (ready : Ready s at n left) (closed : closing (roleOf (getD s (here .at) 0)) ≡ true) where
       pub climb-inside : here .at < length s
       climb-inside = closed-inside s (here .at) closed
 
       pub climb-ready : (leaf : ℕ) → Ready s (here .at + 1) (here .n + 1) (set now (here .n) leaf)
       climb-ready leaf =
           record {
+            form = ready .form;
             short = ready .short;
             inside = omega (arith, climb-inside);
             fewer = omega (arith, fewer-nodes (h .read) (climb-few (ready .fewer)));
@@ -181,16 +182,16 @@ module _ (s : List ℕ) (at n : ℕ) (left : List ℕ) where
       down-less : Down s at k
       down-less i g = h .down i (omega arith)
 
-      byte-is : {q : Meaning} → meaningOf (getD s (p - 1) 0) ≡ q → Byte k ≡ q
-      byte-is e = ap (λ (j : ℕ). meaningOf (getD s j 0)) (sym back) ∙ e
+      byte-is : {q : Role} → roleOf (getD s (p - 1) 0) ≡ q → Byte k ≡ q
+      byte-is e = ap (λ (j : ℕ). roleOf (getD s j 0)) (sym back) ∙ e
 
-      nodes-back : {q : Meaning} → meaningOf (getD s (p - 1) 0) ≡ q → m ≡ withNode q (nodesPast s at n k)
+      nodes-back : {q : Role} → roleOf (getD s (p - 1) 0) ≡ q → m ≡ withNode q (nodesPast s at n k)
       nodes-back e = h .counted ∙ ap (nodesPast s at n) one-more ∙ nodes-next k (byte-is e)
 
-      leaves-back : {q : Meaning} → meaningOf (getD s (p - 1) 0) ≡ q → leavesPast s at n left (h .bytes) ≡ withLeaf q (nodesPast s at n k) (leavesPast s at n left k)
+      leaves-back : {q : Role} → roleOf (getD s (p - 1) 0) ≡ q → leavesPast s at n left (h .bytes) ≡ withLeaf q (nodesPast s at n k) (leavesPast s at n left k)
       leaves-back e = ap (leavesPast s at n left) one-more ∙ leaves-next k (byte-is e)
 
-      pub climb-dot : meaningOf (getD s (p - 1) 0) ≡ Unpaired → (0 < m) × Climbed (p - 1) (m - 1) here now
+      pub climb-dot : roleOf (getD s (p - 1) 0) ≡ Unpaired → (0 < m) × Climbed (p - 1) (m - 1) here now
       climb-dot e =
           let f : m ≡ suc (nodesPast s at n k) = nodes-back e in
           let g : nodesPast s at n k ≡ m - 1 = omega arith in
@@ -210,29 +211,29 @@ module _ (s : List ℕ) (at n : ℕ) (left : List ℕ) where
           )
 
       -- A byte that is no dot opens.
-      pub climb-opens : (q : Meaning) → q ≡ meaningOf (getD s (p - 1) 0) → (tag q ≡ 1) ⊎ ((tag q ≡ 2) ⊎ (tag q ≡ 3)) → meaningOf (getD s (p - 1) 0) ≡ Opening
-      climb-opens q e t = elim (h .down k (omega (arith, one-more))) [ inl u ↦ absurd (no-dot t (ap tag (e ∙ ap (λ (j : ℕ). meaningOf (getD s j 0)) back ∙ u))) | inr u ↦ ap (λ (j : ℕ). meaningOf (getD s j 0)) back ∙ u ]
+      pub climb-opens : (q : Role) → q ≡ roleOf (getD s (p - 1) 0) → (tag q ≡ 1) ⊎ ((tag q ≡ 2) ⊎ (tag q ≡ 3)) → roleOf (getD s (p - 1) 0) ≡ Opening
+      climb-opens q e t = elim (h .down k (omega (arith, one-more))) [ inl u ↦ absurd (no-dot t (ap tag (e ∙ ap (λ (j : ℕ). roleOf (getD s j 0)) back ∙ u))) | inr u ↦ ap (λ (j : ℕ). roleOf (getD s j 0)) back ∙ u ]
         where
           no-dot : (tag q ≡ 1) ⊎ ((tag q ≡ 2) ⊎ (tag q ≡ 3)) → tag q ≡ 0 → ⊥
           no-dot (inl x) z = omega arith
           no-dot (inr (inl x)) z = omega arith
           no-dot (inr (inr x)) z = omega arith
 
-      module _ (e : meaningOf (getD s (p - 1) 0) ≡ Opening) where
+      module _ (e : roleOf (getD s (p - 1) 0) ≡ Opening) where
         inner : RunRead s (p - 1 + 1) m (leavesPast s at n left k) here now
         inner = moved (omega arith) refl (leaves-back e) (h .read)
 
         climbs : (y : ReadTo) (filled : List ℕ) → RunRead s (p - 1) m (leavesPast s at n left k) y filled → length filled ≡ length left → Climbed (p - 1) m y filled
         climbs y filled r l = record { bytes = k; reached = back; inside = omega (arith, h .inside); down = down-less; counted = nodes-back e; read = r; kept = l }
 
-        pub climb-closed : closing (meaningOf (getD s (here .at) 0)) ≡ true → (y : ReadTo) (filled : List ℕ) → RunRead s (here .at + 1) (here .n + 1) (set now (here .n) m) y filled → length filled ≡ length left → Climbed (p - 1) m y filled
+        pub climb-closed : closing (roleOf (getD s (here .at) 0)) ≡ true → (y : ReadTo) (filled : List ℕ) → RunRead s (here .at + 1) (here .n + 1) (set now (here .n) m) y filled → length filled ≡ length left → Climbed (p - 1) m y filled
         climb-closed c y filled r l =
             climbs y filled
             (run-more s (p - 1) m (leavesPast s at n left k) (record { at = here .at + 1; n = here .n + 1 }) (set now (here .n) m)
             (item-closed s (p - 1) m (leavesPast s at n left k) (omega (arith, h .inside)) Opening (sym e) refl here now inner c) (λ x. omega (arith, climb-onward)) y filled r)
             l
 
-        pub climb-stuck : closing (meaningOf (getD s (here .at) 0)) ≡ false → Climbed (p - 1) m (record { at = p - 1; n = m }) now
+        pub climb-stuck : closing (roleOf (getD s (here .at) 0)) ≡ false → Climbed (p - 1) m (record { at = p - 1; n = m }) now
         climb-stuck c =
             climbs (record { at = p - 1; n = m }) now
             (run-done s (p - 1) m (leavesPast s at n left k) (record { at = p - 1; n = m }) now

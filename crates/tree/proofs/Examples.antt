@@ -6,6 +6,7 @@ use lib.ListN.{replicate}
 use Rattle.answer.specs.Answer.{Said, said}
 use Rattle.answer.specs.Answer.Said.{accepted, refused}
 use Rattle.answer.specs.declared.Place.the-variants.{ByteInQ}
+use Rattle.character.specs.Character.{meaningOf}
 use Rattle.tree.specs.Run.{lefts}
 use Rattle.tree.specs.Reading.{Reading, badLength, reading, textAnswer}
 
@@ -22,11 +23,11 @@ leftsOf (Reading.textRefused g k) = []
 
 -- The leftmost leaves of A and of B.
 left-A : leftsOf (reading A) ≡ 0 ∷ 1 ∷ 1 ∷ 0 ∷ 4 ∷ 0 ∷ []
-unfolding reading badLength
+unfolding reading badLength meaningOf
 left-A = refl
 
 left-B : leftsOf (reading B) ≡ 0 ∷ 0 ∷ 2 ∷ 2 ∷ 0 ∷ []
-unfolding reading badLength
+unfolding reading badLength meaningOf
 left-B = refl
 
 -- A text and what is said of it.
@@ -58,5 +59,5 @@ rows =
     ∷ []
 
 texts : map (λ (x : Row). said (textAnswer (reading (x .text)))) rows ≡ map (λ (x : Row). x .says) rows
-unfolding row rows reading badLength
+unfolding row rows reading badLength meaningOf
 texts = refl

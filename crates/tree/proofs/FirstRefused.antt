@@ -8,101 +8,56 @@ use native.Mathlib.Numerals.{add-one}
 use mathlib.Core.List.{List, [], _∷_, _++_, nil≢cons, head-eq-of-cons-eq, tail-eq-of-cons-eq}
 use lib.ListN.{length, getD, drop, length-append, drop-of-length-le}
 use lib.Seq.{drop-cons}
-use Rattle.tree.specs.Reading.{meaningOf, orNext, firstRefused}
-use Rattle.tree.specs.inner.Building.{known, allKnown}
+use Rattle.character.specs.Character.{roleOf}
+use Rattle.tree.specs.Reading.{orNext, firstRefused}
 use Rattle.answer.specs.Grounds.{First, Never}
 use Rattle.tree.specs.Grounds.{UnknownByteAt}
-use Rattle.tree.specs.declared.character.Meaning.{Meaning}
-use Rattle.tree.specs.declared.character.Meaning.the-variants.{Unpaired, Opening, Closing, Refused}
-use Rattle.tree.proofs.Meanings.{tag}
+use Rattle.character.specs.declared.Role.{Role}
+use Rattle.character.specs.declared.Role.the-variants.{Unpaired, Opening, Closing, Refused}
+use Rattle.tree.proofs.Roles.{tag}
 
-next-of : (m : Meaning) → (tag m ≡ 0) ⊎ ((tag m ≡ 1) ⊎ (tag m ≡ 2)) → (n : ℕ) → orNext m n ≡ suc n
+next-of : (m : Role) → (tag m ≡ 0) ⊎ ((tag m ≡ 1) ⊎ (tag m ≡ 2)) → (n : ℕ) → orNext m n ≡ suc n
 next-of Unpaired h n = refl
 next-of Opening h n = refl
 next-of Closing h n = refl
 next-of Refused h n = absurd (⊎-elim (λ x. omega arith) (⊎-elim (λ x. omega arith) (λ x. omega arith)) h)
-
-pub known-or : (m : Meaning) → (tag m ≡ 0) ⊎ ((tag m ≡ 1) ⊎ (tag m ≡ 2)) → true ≡ known m
-known-or Unpaired h = refl
-known-or Opening h = refl
-known-or Closing h = refl
-known-or Refused h = absurd (⊎-elim (λ x. omega arith) (⊎-elim (λ x. omega arith) (λ x. omega arith)) h)
-
-and-assoc : (a b c : Bool) → (a && (b && c)) ≡ ((a && b) && c)
-and-assoc true b c = refl
-and-assoc false b c = refl
-
-and-true : (a : Bool) → (a && true) ≡ a
-and-true true = refl
-and-true false = refl
-
--- The look whether every byte is known: what it has found up to i, and what the rest has.
-pub record KnownTo (s : List ℕ) (i : ℕ) (all : Bool) : Type 0 where
-  pub is : allKnown s ≡ (all && allKnown (drop i s))
-
-pub known-start : (s : List ℕ) → KnownTo s 0 true
-known-start s = record { is = refl }
-
-pub known-turn : (s : List ℕ) (i : ℕ) {all k r : Bool} → i < length s → KnownTo s i all → k ≡ known (meaningOf (getD s i 0)) → r ≡ (all && k) → KnownTo s (i + 1) r
-known-turn s i {all} {k} lt h f g =
-    record {
-      is = h .is
-          ∙ ap (λ (x : List ℕ). all && allKnown x) (drop-cons s i 0 lt)
-          ∙ ap₂ (λ (b : Bool) (j : ℕ). all && (b && allKnown (drop j s))) (sym f) (sym (add-one i))
-          ∙ and-assoc all k (allKnown (drop (i + 1) s))
-          ∙ ap (λ (b : Bool). b && allKnown (drop (i + 1) s)) (sym g);
-    }
-
-pub known-end : (s : List ℕ) (i : ℕ) {all : Bool} → length s ≤ i → KnownTo s i all → all ≡ allKnown s
-known-end s i {all} l h = sym (h .is ∙ ap (λ (x : List ℕ). all && allKnown x) (drop-of-length-le s l) ∙ and-true all)
-
--- If every byte is known, none is refused.
-pub known-all : (s : List ℕ) → allKnown s ≡ true → length s ≡ firstRefused s
-known-all [] e = refl
-known-all (c ∷ s) e = go (meaningOf c) e (known-all s)
-  where
-    go : (m : Meaning) → (known m && allKnown s) ≡ true → (allKnown s ≡ true → length s ≡ firstRefused s) → suc (length s) ≡ orNext m (firstRefused s)
-    go Unpaired h rec = ap suc (rec h)
-    go Opening h rec = ap suc (rec h)
-    go Closing h rec = ap suc (rec h)
-    go Refused h rec = absurd (false≢true h)
 
 -- The search for the first refused byte: it stops at i, or goes on, or has passed the end.
 module _ (s : List ℕ) (i : ℕ) where
   pub refused-none : length s ≤ i → firstRefused s ≡ i + firstRefused (drop i s) → i ≡ firstRefused s
   refused-none h e = let z : firstRefused (drop i s) ≡ 0 = ap firstRefused (drop-of-length-le s h) in omega arith
 
-  module _ (lt : i < length s) (m : Meaning) (is : m ≡ meaningOf (getD s i 0)) (e : firstRefused s ≡ i + firstRefused (drop i s)) where
+  module _ (lt : i < length s) (m : Role) (is : m ≡ roleOf (getD s i 0)) (e : firstRefused s ≡ i + firstRefused (drop i s)) where
     refused-step : firstRefused (drop i s) ≡ orNext m (firstRefused (drop (i + 1) s))
-    refused-step = ap firstRefused (drop-cons s i 0 lt) ∙ ap₂ (λ (k : ℕ) (x : Meaning). orNext x (firstRefused (drop k s))) (sym (add-one i)) (sym is)
+    refused-step = ap firstRefused (drop-cons s i 0 lt) ∙ ap₂ (λ (k : ℕ) (x : Role). orNext x (firstRefused (drop k s))) (sym (add-one i)) (sym is)
 
     pub refused-here : m ≡ Refused → i ≡ firstRefused s
-    refused-here r = let z : firstRefused (drop i s) ≡ 0 = refused-step ∙ ap (λ (x : Meaning). orNext x (firstRefused (drop (i + 1) s))) r in omega arith
+    refused-here r = let z : firstRefused (drop i s) ≡ 0 = refused-step ∙ ap (λ (x : Role). orNext x (firstRefused (drop (i + 1) s))) r in omega arith
 
     pub refused-later : (tag m ≡ 0) ⊎ ((tag m ≡ 1) ⊎ (tag m ≡ 2)) → firstRefused s ≡ i + 1 + firstRefused (drop (i + 1) s)
     refused-later h = let z : firstRefused (drop i s) ≡ suc (firstRefused (drop (i + 1) s)) = refused-step ∙ next-of m h (firstRefused (drop (i + 1) s)) in omega arith
 
 -- By the grounds: the first byte that has no meaning, or that there is none.
-next-le : (m : Meaning) (n : ℕ) → orNext m n ≤ suc n
+next-le : (m : Role) (n : ℕ) → orNext m n ≤ suc n
 next-le Unpaired n = omega arith
 next-le Opening n = omega arith
 next-le Closing n = omega arith
 next-le Refused n = omega arith
 
-pub refused-le : (s f : List ℕ) (c : ℕ) (q : List ℕ) → s ≡ f ++ c ∷ q → meaningOf c ≡ Refused → firstRefused s ≤ length f
+pub refused-le : (s f : List ℕ) (c : ℕ) (q : List ℕ) → s ≡ f ++ c ∷ q → roleOf c ≡ Refused → firstRefused s ≤ length f
 refused-le [] [] c q e k = absurd (nil≢cons e)
 refused-le [] (x ∷ f) c q e k = absurd (nil≢cons e)
-refused-le (y ∷ s) [] c q e k = let z : firstRefused (y ∷ s) ≡ 0 = ap (λ (m : Meaning). orNext m (firstRefused s)) (ap meaningOf (head-eq-of-cons-eq e) ∙ k) in omega arith
-refused-le (y ∷ s) (x ∷ f) c q e k = omega (arith, next-le (meaningOf y) (firstRefused s), refused-le s f c q (tail-eq-of-cons-eq e) k)
+refused-le (y ∷ s) [] c q e k = let z : firstRefused (y ∷ s) ≡ 0 = ap (λ (m : Role). orNext m (firstRefused s)) (ap roleOf (head-eq-of-cons-eq e) ∙ k) in omega arith
+refused-le (y ∷ s) (x ∷ f) c q e k = omega (arith, next-le (roleOf y) (firstRefused s), refused-le s f c q (tail-eq-of-cons-eq e) k)
 
 pub refused-there : (s : List ℕ) → firstRefused s < length s → UnknownByteAt s (firstRefused s)
 refused-there [] h = absurd (omega arith)
-refused-there (c ∷ s) h = go (meaningOf c) refl h (refused-there s)
+refused-there (c ∷ s) h = go (roleOf c) refl h (refused-there s)
   where
     later : UnknownByteAt s (firstRefused s) → UnknownByteAt (c ∷ s) (suc (firstRefused s))
     later w = record { front = c ∷ w .front; byte = w .byte; back = w .back; split = ap (λ (l : List ℕ). c ∷ l) (w .split); place = ap suc (w .place); unknown = w .unknown }
 
-    go : (m : Meaning) → meaningOf c ≡ m → orNext m (firstRefused s) < length (c ∷ s) → (firstRefused s < length s → UnknownByteAt s (firstRefused s)) → UnknownByteAt (c ∷ s) (orNext m (firstRefused s))
+    go : (m : Role) → roleOf c ≡ m → orNext m (firstRefused s) < length (c ∷ s) → (firstRefused s < length s → UnknownByteAt s (firstRefused s)) → UnknownByteAt (c ∷ s) (orNext m (firstRefused s))
     go Unpaired e l rec = later (rec (omega arith))
     go Opening e l rec = later (rec (omega arith))
     go Closing e l rec = later (rec (omega arith))
@@ -120,13 +75,13 @@ refused-never s h k w = omega (arith, refused-le s (w .front) (w .byte) (w .back
 -- No byte is refused.
 abbrev pub Clean : List ℕ → Type 0
 Clean [] = Unit {0}
-Clean (c ∷ s) = (meaningOf c ≡ Refused → ⊥) × Clean s
+Clean (c ∷ s) = (roleOf c ≡ Refused → ⊥) × Clean s
 
 pub clean : (s : List ℕ) → length s ≤ firstRefused s → Clean s
 clean [] h = tt
 clean (c ∷ s) h = (
-  (λ e. let z : firstRefused (c ∷ s) ≡ 0 = ap (λ (m : Meaning). orNext m (firstRefused s)) e in omega arith),
-  clean s (omega (arith, next-le (meaningOf c) (firstRefused s))),
+  (λ e. let z : firstRefused (c ∷ s) ≡ 0 = ap (λ (m : Role). orNext m (firstRefused s)) e in omega arith),
+  clean s (omega (arith, next-le (roleOf c) (firstRefused s))),
 )
 
 pub clean-back : (a b : List ℕ) → Clean (a ++ b) → Clean b

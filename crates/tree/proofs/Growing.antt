@@ -11,14 +11,15 @@ use lib.ListN.{length, getD, drop, set, length-append, length-drop, drop-of-leng
 use lib.Seq.{sets, drop-cons, drop-drop, getD-drop}
 use Rattle.tree.specs.Run.{Run, spell, size, leftsFrom}
 use Rattle.tree.specs.Run.Run.{end, dot, pair}
-use Rattle.tree.specs.Reading.{meaningOf, Runs, first, onto, runs}
+use Rattle.character.specs.Character.{meaningOf, roleOf}
+use Rattle.tree.specs.Reading.{Runs, first, onto, runs}
 use Rattle.tree.specs.Reading.Runs.{last, more}
 use Rattle.tree.specs.inner.Building.{runAt, itemOf, Ready, Built, OpensAt, RunRead, ItemRead, closing}
-use Rattle.tree.specs.declared.character.Meaning.{Meaning}
-use Rattle.tree.specs.declared.character.Meaning.the-variants.{Unpaired, Opening, Closing, Refused}
+use Rattle.character.specs.declared.Role.{Role}
+use Rattle.character.specs.declared.Role.the-variants.{Unpaired, Opening, Closing, Refused}
 use Rattle.tree.specs.declared.run.ReadTo.{ReadTo}
 use Rattle.answer.proofs.Denied.{clash}
-use Rattle.tree.proofs.Meanings.{tag}
+use Rattle.tree.proofs.Roles.{tag}
 use Rattle.tree.proofs.Leaves.{lt-or-le, length-lefts}
 use Rattle.tree.proofs.Splits.{splits, first-fits, item-fits, size-spell, ended, ended-closing, ended-other, onto-open, closer, onto-pair, restOf, rest-read}
 
@@ -28,10 +29,14 @@ sets-append l i [] ys = ap (λ (k : ℕ). sets l k ys) (sym (add-zero i))
 sets-append l i (x ∷ xs) ys = sets-append (set l i x) (suc i) xs ys ∙ ap (λ (k : ℕ). sets (sets (set l i x) (suc i) xs) k ys) (omega arith)
 
 -- Beyond a text no byte means anything.
-pub beyond : (s : List ℕ) (i : ℕ) → length s ≤ i → getD s i 0 ≡ 0
+beyond : (s : List ℕ) (i : ℕ) → length s ≤ i → getD s i 0 ≡ 0
 beyond [] i h = refl
 beyond (x ∷ s) zero h = absurd (omega arith)
 beyond (x ∷ s) (suc i) h = beyond s i (omega arith)
+
+pub beyond-refused : (s : List ℕ) (i : ℕ) → length s ≤ i → roleOf (getD s i 0) ≡ Refused
+unfolding meaningOf
+beyond-refused s i h = ap roleOf (beyond s i h)
 
 -- The leftmost leaves of a bracket pair are those of the run inside it, and its own.
 pair-left : (l : List ℕ) (n : ℕ) (r : Run) → set (sets l n (leftsFrom n r)) (n + size r) n ≡ sets l n (leftsFrom n r ++ n ∷ [])
@@ -62,7 +67,7 @@ rest-left l n (pair o i c r) =
     ∙ ap (λ (v : List ℕ). sets l n v) (append-assoc (leftsFrom n i) (n ∷ []) L)
 
 -- A closing or a refused byte begins no item.
-other-item : (m : Meaning) → (tag m ≡ 2) ⊎ (tag m ≡ 3) → (x : ℕ) (rs : Runs) → itemOf (first (onto m x rs)) ≡ end
+other-item : (m : Role) → (tag m ≡ 2) ⊎ (tag m ≡ 3) → (x : ℕ) (rs : Runs) → itemOf (first (onto m x rs)) ≡ end
 other-item Unpaired h x rs = ⊎-elim (λ e. absurd (omega arith)) (λ e. absurd (omega arith)) h
 other-item Opening h x rs = ⊎-elim (λ e. absurd (omega arith)) (λ e. absurd (omega arith)) h
 other-item Closing h x rs = refl
@@ -78,14 +83,14 @@ no-item (dot c r) h = absurd (omega arith)
 no-item (pair o i c r) h = absurd (omega arith)
 
 -- A closing byte stands inside the text.
-pub is-closing : (m : Meaning) → closing m ≡ true → m ≡ Closing
+pub is-closing : (m : Role) → closing m ≡ true → m ≡ Closing
 is-closing Unpaired e = absurd (false≢true e)
 is-closing Opening e = absurd (false≢true e)
 is-closing Closing e = refl
 is-closing Refused e = absurd (false≢true e)
 
-pub closed-inside : (s : List ℕ) (i : ℕ) → closing (meaningOf (getD s i 0)) ≡ true → i < length s
-closed-inside s i h = elim (lt-or-le i (length s)) [ inl l ↦ l | inr l ↦ absurd (false≢true (sym (ap (λ (b : ℕ). closing (meaningOf b)) (beyond s i l)) ∙ h)) ]
+pub closed-inside : (s : List ℕ) (i : ℕ) → closing (roleOf (getD s i 0)) ≡ true → i < length s
+closed-inside s i h = elim (lt-or-le i (length s)) [ inl l ↦ l | inr l ↦ absurd (false≢true (sym (ap closing (beyond-refused s i l)) ∙ h)) ]
 
 -- What is read has no more nodes than bytes.
 pub fewer-nodes : {r : Run} {stuck : Type 0} {at n : ℕ} {left : List ℕ} {x : ReadTo} {after : List ℕ} → Built r stuck at n left x after → n ≤ at → x .n ≤ x .at
@@ -109,19 +114,19 @@ module _ (s : List ℕ) (at n : ℕ) (left : List ℕ) where
   pub item-end : length s ≤ at → ItemRead s at n left (record { at = at; n = n }) left
   item-end h = stays (ap (λ (l : List ℕ). itemOf (first (runs l))) (drop-of-length-le s h)) (λ f. refl)
 
-  module _ (lt : at < length s) (m : Meaning) (is : m ≡ meaningOf (getD s at 0)) where
+  module _ (lt : at < length s) (m : Role) (is : m ≡ roleOf (getD s at 0)) where
     item-is : itemOf (runAt s at) ≡ itemOf (first (onto m Byte (runs Next)))
-    item-is = ap (λ (x : Runs). itemOf (first x)) (ap runs (drop-cons s at 0 lt) ∙ ap₂ (λ (k : ℕ) (x : Meaning). onto x Byte (runs (drop k s))) (sym (add-one at)) (sym is))
+    item-is = ap (λ (x : Runs). itemOf (first x)) (ap runs (drop-cons s at 0 lt) ∙ ap₂ (λ (k : ℕ) (x : Role). onto x Byte (runs (drop k s))) (sym (add-one at)) (sym is))
 
     pub item-other : (tag m ≡ 2) ⊎ (tag m ≡ 3) → ItemRead s at n left (record { at = at; n = n }) left
     item-other h = stays (item-is ∙ other-item m h Byte (runs Next)) (λ f. refl)
 
     pub item-dot : m ≡ Unpaired → ItemRead s at n left (record { at = at + 1; n = n + 1 }) (set left n n)
-    item-dot e = reads (dot Byte end) (item-is ∙ ap (λ (k : Meaning). itemOf (first (onto k Byte (runs Next)))) e ∙ onto-dot Byte (runs Next)) (record { passed = refl; counted = refl; written = λ f. refl })
+    item-dot e = reads (dot Byte end) (item-is ∙ ap (λ (k : Role). itemOf (first (onto k Byte (runs Next)))) e ∙ onto-dot Byte (runs Next)) (record { passed = refl; counted = refl; written = λ f. refl })
 
     module _ (opens : m ≡ Opening) (x : ReadTo) (after : List ℕ) (inner : RunRead s (at + 1) n left x after) where
       opening-is : itemOf (runAt s at) ≡ itemOf (first (onto Opening Byte (runs Next)))
-      opening-is = item-is ∙ ap (λ (k : Meaning). itemOf (first (onto k Byte (runs Next)))) opens
+      opening-is = item-is ∙ ap (λ (k : Role). itemOf (first (onto k Byte (runs Next)))) opens
 
       close-byte : getD Next (length (spell (first (runs Next)))) 0 ≡ getD s (x .at) 0
       close-byte = getD-drop (at + 1) s (length (spell (first (runs Next)))) 0 ∙ ap (λ (k : ℕ). getD s k 0) (sym (inner .passed))
@@ -129,14 +134,14 @@ module _ (s : List ℕ) (at n : ℕ) (left : List ℕ) where
       unended : ended (runs Next) ≡ false → ItemRead s at n left (record { at = at; n = n }) after
       unended e = stays (opening-is ∙ ap (λ (y : Runs). itemOf (first y)) (onto-open Byte (runs Next) e)) (λ f. absurd (f (sym is ∙ opens)))
 
-      pub item-unclosed : closing (meaningOf (getD s (x .at) 0)) ≡ false → ItemRead s at n left (record { at = at; n = n }) after
-      item-unclosed h = unended (ended-other Next (runs Next) (splits Next) (λ e. true≢false (ap closing (sym e ∙ ap meaningOf close-byte) ∙ h)))
+      pub item-unclosed : closing (roleOf (getD s (x .at) 0)) ≡ false → ItemRead s at n left (record { at = at; n = n }) after
+      item-unclosed h = unended (ended-other Next (runs Next) (splits Next) (λ e. true≢false (ap closing (sym e ∙ ap roleOf close-byte) ∙ h)))
 
-      pub item-closed : closing (meaningOf (getD s (x .at) 0)) ≡ true → ItemRead s at n left (record { at = x .at + 1; n = x .n + 1 }) (set after (x .n) n)
+      pub item-closed : closing (roleOf (getD s (x .at) 0)) ≡ true → ItemRead s at n left (record { at = x .at + 1; n = x .n + 1 }) (set after (x .n) n)
       item-closed h =
           let r : Run = runAt s (at + 1) in
-          let closes : meaningOf (getD s (x .at) 0) ≡ Closing = is-closing (meaningOf (getD s (x .at) 0)) h in
-          let now-ended : ended (runs Next) ≡ true = ended-closing Next (runs Next) (splits Next) (omega (arith, length-drop (at + 1) s, inner .passed, closed-inside s (x .at) h)) (ap meaningOf close-byte ∙ closes) in
+          let closes : roleOf (getD s (x .at) 0) ≡ Closing = is-closing (roleOf (getD s (x .at) 0)) h in
+          let now-ended : ended (runs Next) ≡ true = ended-closing Next (runs Next) (splits Next) (omega (arith, length-drop (at + 1) s, inner .passed, closed-inside s (x .at) h)) (ap roleOf close-byte ∙ closes) in
           reads (pair Byte r (closer (runs Next)) end) (opening-is ∙ onto-pair Byte (runs Next) now-ended)
           (record {
             passed = omega (arith, inner .passed, length-append (spell r) (closer (runs Next) ∷ []));
@@ -168,12 +173,13 @@ module _ (s : List ℕ) (at n : ℕ) (left : List ℕ) where
   -- Where a run can be read, one can be read past an opening byte, and past an item.
   module _ (ready : Ready s at n left) where
     pub ready-inside : at < length s → Ready s (at + 1) n left
-    ready-inside lt = record { short = ready .short; inside = omega arith; fewer = omega (arith, ready .fewer); room = ready .room }
+    ready-inside lt = record { form = ready .form; short = ready .short; inside = omega arith; fewer = omega (arith, ready .fewer); room = ready .room }
 
     ready-past : (x : ReadTo) (after : List ℕ) → ItemRead s at n left x after → length after ≡ length left → Ready s (x .at) (x .n) after
     ready-past x after h e =
         let r : Run = runAt s at in
         record {
+          form = ready .form;
           short = ready .short;
           inside = omega (arith, h .passed, first-fits (drop at s), item-fits r, length-drop at s, ready .inside);
           fewer = fewer-nodes h (ready .fewer);

@@ -4,10 +4,11 @@ use mathlib.Core.List.{List, [], _∷_, _++_, append-assoc, append-nil}
 use Prim.Native.Nat.{ℕ}
 use Rattle.tree.specs.Run.{Run, spell, join}
 use Rattle.tree.specs.Run.Run.{end, dot, pair}
-use Rattle.tree.specs.Reading.{meaningOf, Meant, Runs, first, onto, runs}
+use Rattle.character.specs.Character.{roleOf}
+use Rattle.tree.specs.Reading.{Meant, Runs, first, onto, runs}
 use Rattle.tree.specs.Reading.Runs.{last, more}
-use Rattle.tree.specs.declared.character.Meaning.{Meaning}
-use Rattle.tree.specs.declared.character.Meaning.the-variants.{Opening, Closing, Unpaired, Refused}
+use Rattle.character.specs.declared.Role.{Role}
+use Rattle.character.specs.declared.Role.the-variants.{Opening, Closing, Unpaired, Refused}
 
 join-end : (r : Run) → join r end ≡ r
 join-end end = refl
@@ -34,10 +35,10 @@ before-pair o i c r (more q d rs) = ap (λ (k : Run). more (pair o k c (join r q
 -- A run in front of any text is read as itself.
 pub read-back : (r : Run) → Meant r → (s : List ℕ) → runs (spell r ++ s) ≡ before r (runs s)
 read-back end m s = before-end (runs s)
-read-back (dot c r) m s = ap₂ (λ (k : Meaning) (x : Runs). onto k c x) (m .0) (read-back r (m .1) s) ∙ before-dot c r (runs s)
+read-back (dot c r) m s = ap₂ (λ (k : Role) (x : Runs). onto k c x) (m .0) (read-back r (m .1) s) ∙ before-dot c r (runs s)
 read-back (pair o i c r) m s =
-    ap (λ (l : List ℕ). onto (meaningOf o) o (runs l)) (append-assoc (spell i) (c ∷ spell r) s)
-    ∙ ap₂ (λ (k : Meaning) (x : Runs). onto k o x) (m .0) (read-back i (m .1) (c ∷ (spell r ++ s)) ∙ ap (before i) (ap₂ (λ (k : Meaning) (x : Runs). onto k c x) (m .2) (read-back r (m .3) s)))
+    ap (λ (l : List ℕ). onto (roleOf o) o (runs l)) (append-assoc (spell i) (c ∷ spell r) s)
+    ∙ ap₂ (λ (k : Role) (x : Runs). onto k o x) (m .0) (read-back i (m .1) (c ∷ (spell r ++ s)) ∙ ap (before i) (ap₂ (λ (k : Role) (x : Runs). onto k c x) (m .2) (read-back r (m .3) s)))
     ∙ before-pair o i c r (runs s)
 
 -- A run's text is read as that run, all of it.
@@ -51,9 +52,9 @@ spell-injective r q m n e = ap first (sym (read-spell r m) ∙ ap runs e ∙ rea
 -- What is read is meant as its bytes are.
 abbrev AllMeant : Runs → Type 0
 AllMeant (last r) = Meant r
-AllMeant (more r c rs) = Meant r × (meaningOf c ≡ Closing) × AllMeant rs
+AllMeant (more r c rs) = Meant r × (roleOf c ≡ Closing) × AllMeant rs
 
-meant-onto : (x : ℕ) (m : Meaning) → meaningOf x ≡ m → (rs : Runs) → AllMeant rs → AllMeant (onto m x rs)
+meant-onto : (x : ℕ) (m : Role) → roleOf x ≡ m → (rs : Runs) → AllMeant rs → AllMeant (onto m x rs)
 meant-onto x Unpaired e (last r) w = (e, w)
 meant-onto x Unpaired e (more r c rs) w = ((e, w .0), w .1, w .2)
 meant-onto x Opening e (last r) w = tt
@@ -64,7 +65,7 @@ meant-onto x Refused e rs w = tt
 
 all-meant : (s : List ℕ) → AllMeant (runs s)
 all-meant [] = tt
-all-meant (x ∷ s) = meant-onto x (meaningOf x) refl (runs s) (all-meant s)
+all-meant (x ∷ s) = meant-onto x (roleOf x) refl (runs s) (all-meant s)
 
 head-meant : (rs : Runs) → AllMeant rs → Meant (first rs)
 head-meant (last r) w = w

@@ -7,11 +7,12 @@ use mathlib.Core.List.{List, [], _∷_, _++_, append-assoc}
 use lib.ListN.{length, getD, drop, length-append}
 use Rattle.tree.specs.Run.{Run, spell, size}
 use Rattle.tree.specs.Run.Run.{end, dot, pair}
-use Rattle.tree.specs.Reading.{meaningOf, Runs, first, onto, runs}
+use Rattle.character.specs.Character.{roleOf}
+use Rattle.tree.specs.Reading.{Runs, first, onto, runs}
 use Rattle.tree.specs.inner.Building.{itemOf}
 use Rattle.tree.specs.Reading.Runs.{last, more}
-use Rattle.tree.specs.declared.character.Meaning.{Meaning}
-use Rattle.tree.specs.declared.character.Meaning.the-variants.{Unpaired, Opening, Closing, Refused}
+use Rattle.character.specs.declared.Role.{Role}
+use Rattle.character.specs.declared.Role.the-variants.{Unpaired, Opening, Closing, Refused}
 
 -- What follows the first item of a run.
 abbrev pub restOf : Run → Run
@@ -22,15 +23,15 @@ restOf (pair o i c r) = r
 -- What follows the last run of a text.
 pub data Stop : List ℕ → Type 0 where
   none : Stop []
-  open-at : {c : ℕ} {t : List ℕ} {q : Run} → meaningOf c ≡ Opening → runs t ≡ last q → Stop (c ∷ t)
-  bad-at : {c : ℕ} {t : List ℕ} → meaningOf c ≡ Refused → Stop (c ∷ t)
+  open-at : {c : ℕ} {t : List ℕ} {q : Run} → roleOf c ≡ Opening → runs t ≡ last q → Stop (c ∷ t)
+  bad-at : {c : ℕ} {t : List ℕ} → roleOf c ≡ Refused → Stop (c ∷ t)
 
 -- A text splits into runs, a closing bracket between any two of them.
 abbrev pub Splits : Runs → List ℕ → Type 0
 Splits (last r) s = (t : List ℕ) × (s ≡ spell r ++ t) × Stop t
-Splits (more r c rs) s = (t : List ℕ) × (s ≡ spell r ++ c ∷ t) × (meaningOf c ≡ Closing) × (runs t ≡ rs) × Splits rs t
+Splits (more r c rs) s = (t : List ℕ) × (s ≡ spell r ++ c ∷ t) × (roleOf c ≡ Closing) × (runs t ≡ rs) × Splits rs t
 
-splits-onto : (x : ℕ) (s : List ℕ) (m : Meaning) → meaningOf x ≡ m → (rs : Runs) → runs s ≡ rs → Splits rs s → Splits (onto m x rs) (x ∷ s)
+splits-onto : (x : ℕ) (s : List ℕ) (m : Role) → roleOf x ≡ m → (rs : Runs) → runs s ≡ rs → Splits rs s → Splits (onto m x rs) (x ∷ s)
 splits-onto x s Unpaired k (last r) f w = (w .0, (cc), w .2)
 splits-onto x s Unpaired k (more r c rs) f w = (w .0, (cc), w .2, w .3, w .4)
 splits-onto x s Opening k (last r) f w = (x ∷ s, refl, open-at k f)
@@ -41,7 +42,7 @@ splits-onto x s Refused k rs f w = (x ∷ s, refl, bad-at k)
 
 pub splits : (s : List ℕ) → Splits (runs s) s
 splits [] = ([], refl, none)
-splits (c ∷ s) = splits-onto c s (meaningOf c) refl (runs s) refl (splits s)
+splits (c ∷ s) = splits-onto c s (roleOf c) refl (runs s) refl (splits s)
 
 -- A text begins with the run that is read from it.
 pub begins : (s : List ℕ) (rs : Runs) → Splits rs s → (t : List ℕ) × (s ≡ spell (first rs) ++ t)
@@ -67,7 +68,7 @@ abbrev pub ended : Runs → Bool
 ended (last r) = false
 ended (more r c rs) = true
 
-stop-closing : (t : List ℕ) → Stop t → 0 < length t → meaningOf (getD t 0 0) ≡ Closing → ⊥
+stop-closing : (t : List ℕ) → Stop t → 0 < length t → roleOf (getD t 0 0) ≡ Closing → ⊥
 stop-closing [] none h e = omega arith
 stop-closing (c ∷ t) (open-at k f) h e = let z : _≡_ {A = ℕ} 0 1 = cc in omega arith
 stop-closing (c ∷ t) (bad-at k) h e = let z : _≡_ {A = ℕ} 0 1 = cc in omega arith
@@ -80,13 +81,13 @@ pub after : (s a t : List ℕ) → s ≡ a ++ t → getD s (length a) 0 ≡ getD
 after s a t e = ap (λ (l : List ℕ). getD l (length a) 0) e ∙ seam a t
 
 -- The byte at which a run stops tells whether a closing bracket ends it.
-pub ended-closing : (s : List ℕ) (rs : Runs) → Splits rs s → length (spell (first rs)) < length s → meaningOf (getD s (length (spell (first rs))) 0) ≡ Closing → ended rs ≡ true
-ended-closing s (last r) w h e = absurd (stop-closing (w .0) (w .2) (omega (arith, length-append (spell r) (w .0), ap length (w .1))) (sym (ap meaningOf (after s (spell r) (w .0) (w .1))) ∙ e))
+pub ended-closing : (s : List ℕ) (rs : Runs) → Splits rs s → length (spell (first rs)) < length s → roleOf (getD s (length (spell (first rs))) 0) ≡ Closing → ended rs ≡ true
+ended-closing s (last r) w h e = absurd (stop-closing (w .0) (w .2) (omega (arith, length-append (spell r) (w .0), ap length (w .1))) (sym (ap roleOf (after s (spell r) (w .0) (w .1))) ∙ e))
 ended-closing s (more r c rs) w h e = refl
 
-pub ended-other : (s : List ℕ) (rs : Runs) → Splits rs s → (meaningOf (getD s (length (spell (first rs))) 0) ≡ Closing → ⊥) → ended rs ≡ false
+pub ended-other : (s : List ℕ) (rs : Runs) → Splits rs s → (roleOf (getD s (length (spell (first rs))) 0) ≡ Closing → ⊥) → ended rs ≡ false
 ended-other s (last r) w e = refl
-ended-other s (more r c rs) w e = absurd (e (ap meaningOf (after s (spell r) (c ∷ w .0) (w .1)) ∙ w .2))
+ended-other s (more r c rs) w e = absurd (e (ap roleOf (after s (spell r) (c ∷ w .0) (w .1)) ∙ w .2))
 
 pub onto-open : (x : ℕ) (rs : Runs) → ended rs ≡ false → onto Opening x rs ≡ last end
 onto-open x (last r) e = refl
@@ -112,13 +113,13 @@ drop-past s a x t e = ap (λ (l : List ℕ). drop (length (a ++ x ∷ [])) l) e 
 -- What follows the item that is read first is read as the rest of the run.
 pub rest-read : (s : List ℕ) → first (runs (drop (length (spell (itemOf (first (runs s))))) s)) ≡ restOf (first (runs s))
 rest-read [] = refl
-rest-read (c ∷ s) = go (meaningOf c) refl (runs s) refl (splits s)
+rest-read (c ∷ s) = go (roleOf c) refl (runs s) refl (splits s)
   where
-    go : (m : Meaning) → meaningOf c ≡ m → (rs : Runs) → runs s ≡ rs → Splits rs s → first (runs (drop (length (spell (itemOf (first (onto m c rs))))) (c ∷ s))) ≡ restOf (first (onto m c rs))
+    go : (m : Role) → roleOf c ≡ m → (rs : Runs) → runs s ≡ rs → Splits rs s → first (runs (drop (length (spell (itemOf (first (onto m c rs))))) (c ∷ s))) ≡ restOf (first (onto m c rs))
     go Unpaired e (last r) f w = ap first f
     go Unpaired e (more r d rs) f w = ap first f
-    go Opening e (last r) f w = ap first (ap₂ (λ (m : Meaning) (x : Runs). onto m c x) e f)
+    go Opening e (last r) f w = ap first (ap₂ (λ (m : Role) (x : Runs). onto m c x) e f)
     go Opening e (more r d (last q)) f w = ap first (ap runs (drop-past s (spell r) d (w .0) (w .1)) ∙ w .3)
     go Opening e (more r d (more q d₂ rs)) f w = ap first (ap runs (drop-past s (spell r) d (w .0) (w .1)) ∙ w .3)
-    go Closing e rs f w = ap (λ (m : Meaning). first (onto m c (runs s))) e
-    go Refused e rs f w = ap (λ (m : Meaning). first (onto m c (runs s))) e
+    go Closing e rs f w = ap (λ (m : Role). first (onto m c (runs s))) e
+    go Refused e rs f w = ap (λ (m : Role). first (onto m c (runs s))) e

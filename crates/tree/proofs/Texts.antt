@@ -13,17 +13,17 @@ use Rattle.answer.specs.declared.Ground.{Ground}
 use Rattle.answer.specs.declared.Ground.the-variants.{TextLength, UnknownByte, ClosesNothing, NeverClosed}
 use Rattle.answer.specs.declared.Answer.the-variants.{Accepted}
 use Rattle.tree.specs.Run.{Run, spell, size, leftsFrom, lefts}
-use Rattle.tree.specs.Reading.{meaningOf, first, runs, firstRefused, badLength, groundAt, stopped, reading, readOf}
-use Rattle.tree.specs.inner.Building.{Ready, OpensAt, RunRead}
+use Rattle.character.specs.Character.{meaningOf, roleOf}
+use Rattle.tree.specs.Reading.{first, runs, firstRefused, badLength, groundAt, stopped, blindReading, withKinds, reading, readOf}
+use Rattle.tree.specs.inner.Building.{Ready, OpensAt, RunRead, Known}
 use Rattle.tree.specs.Reading.Reading.{textAccepted, textRefused}
-use Rattle.tree.specs.declared.character.Meaning.{Meaning}
-use Rattle.tree.specs.declared.character.Meaning.the-variants.{Unpaired, Opening, Closing, Refused}
+use Rattle.character.specs.declared.Role.{Role}
+use Rattle.character.specs.declared.Role.the-variants.{Unpaired, Opening, Closing, Refused}
 use Rattle.tree.specs.declared.run.ReadTo.{ReadTo}
 use Rattle.tree.specs.declared.TreeRead.{TreeRead}
 use Rattle.answer.proofs.Denied.{clash}
-use Rattle.tree.proofs.Meanings.{tag}
+use Rattle.tree.proofs.Roles.{tag}
 use Rattle.tree.proofs.Leaves.{length-lefts}
-use Rattle.tree.proofs.Lengths.{length-few}
 use Rattle.tree.proofs.Splits.{first-fits, size-spell}
 
 abbrev pub zeros : ℕ → List ℕ
@@ -47,9 +47,10 @@ padded m r h =
 
 -- No byte stands at the end of a text.
 end-opens : (s : List ℕ) (k : ℕ) → k ≡ length s → OpensAt s k → ⊥
-end-opens s k e o = let z = ap meaningOf (List·getD-eq-default s 0 {n = k} (omega arith)) in clash (cc)
+unfolding meaningOf
+end-opens s k e o = let z = ap roleOf (List·getD-eq-default s 0 {n = k} (omega arith)) in clash (cc)
 
-ground-other : (m : Meaning) → (tag m ≡ 0) ⊎ ((tag m ≡ 1) ⊎ (tag m ≡ 3)) → groundAt m ≡ NeverClosed
+ground-other : (m : Role) → (tag m ≡ 0) ⊎ ((tag m ≡ 1) ⊎ (tag m ≡ 3)) → groundAt m ≡ NeverClosed
 ground-other Unpaired h = refl
 ground-other Opening h = refl
 ground-other Closing h = absurd (⊎-elim (λ x. omega arith) (⊎-elim (λ x. omega arith) (λ x. omega arith)) h)
@@ -63,56 +64,57 @@ module _ (s : List ℕ) where
   unfolding reading
   read-length h = rw h
 
-  module _ (fits : badLength (length s) ≡ false) where
+  pub read-fits : badLength (length s) ≡ false → reading s ≡ withKinds s (blindReading s)
+  unfolding reading
+  read-fits h = rw h
+
+  pub blind-unknown : firstRefused s < length s → blindReading s ≡ textRefused UnknownByte (firstRefused s)
+  blind-unknown h = rw (lt-ltb (firstRefused s) (length s) h)
+
+  pub blind-known : length s ≤ firstRefused s → blindReading s ≡ stopped s (first (runs s))
+  blind-known h = rw (le-ltb (firstRefused s) (length s) h)
+
+  module _ (known : Known s) where
     pub read-ready : Ready s 0 0 (zeros 256)
     read-ready = record {
-      short = length-few (length s) fits;
+      form = known .form;
+      short = known .short;
       inside = omega arith;
       fewer = omega arith;
-      room = omega (arith, length-few (length s) fits, length-replicate {A = ℕ} 256 0);
+      room = omega (arith, known .short, length-replicate {A = ℕ} 256 0);
     }
 
-    module _ (u : ℕ) (unknown : u ≡ firstRefused s) where
-      pub read-unknown : u < length s → reading s ≡ textRefused UnknownByte u
-      unfolding reading
-      read-unknown h = rw (fits, ← unknown, lt-ltb u (length s) h)
+    module _ (x : ReadTo) (left : List ℕ) (is : RunRead s 0 0 (zeros 256) x left) where
+      at-stop : x .at ≡ length (spell (first (runs s)))
+      at-stop = is .passed ∙ zero-add (length (spell (first (runs s))))
 
-      module _ (clean : length s ≤ u) where
-        pub read-stopped : reading s ≡ stopped s (first (runs s))
-        unfolding reading
-        read-stopped = rw (fits, ← unknown, le-ltb u (length s) clean)
+      pub read-inside : (x .at ≡ length s → ⊥) → x .at < length s
+      read-inside ne = omega (arith, first-fits s, at-stop)
 
-        module _ (x : ReadTo) (left : List ℕ) (is : RunRead s 0 0 (zeros 256) x left) where
-          at-stop : x .at ≡ length (spell (first (runs s)))
-          at-stop = is .passed ∙ zero-add (length (spell (first (runs s))))
+      few : size (first (runs s)) ≤ 255
+      few = omega (arith, size-spell (first (runs s)), first-fits s, known .short)
 
-          pub read-inside : (x .at ≡ length s → ⊥) → x .at < length s
-          read-inside ne = omega (arith, first-fits s, at-stop)
+      pub read-few : x .n ≤ 255
+      read-few = omega (arith, is .counted, few)
 
-          few : size (first (runs s)) ≤ 255
-          few = omega (arith, size-spell (first (runs s)), first-fits s, length-few (length s) fits)
+      pub read-all : x .at ≡ length s → _≡_ {A = TreeRead} (record { answer = Accepted; tree = record { n = x .n + 1; left = left } }) (readOf (blindReading s))
+      read-all e =
+          let r : Run = first (runs s) in
+          let st : stopped s r ≡ textAccepted r = rw (eq-eqb (length (spell r)) (length s) (sym at-stop ∙ e)) in
+          read-tree (x .n) (size r) left (lefts r ++ zeros (255 - size r)) (is .counted ∙ zero-add (size r)) (is .written (end-opens s (x .at) e) ∙ padded 255 r few)
+          ∙ sym (ap readOf (blind-known (known .known) ∙ st))
 
-          pub read-few : x .n ≤ 255
-          read-few = omega (arith, is .counted, few)
+      module _ (ne : x .at ≡ length s → ⊥) (m : Role) (means : m ≡ roleOf (getD s (x .at) 0)) where
+        at-other : blindReading s ≡ textRefused (groundAt m) (x .at)
+        at-other =
+            let r : Run = first (runs s) in
+            let st : stopped s r ≡ textRefused (groundAt (roleOf (getD s (length (spell r)) 0))) (length (spell r)) = rw (ne-eqb (length (spell r)) (length s) (λ h. ne (at-stop ∙ h))) in
+            blind-known (known .known) ∙ st
+            ∙ ap (λ (k : ℕ). textRefused (groundAt (roleOf (getD s k 0))) k) (sym at-stop)
+            ∙ ap (λ (k : Role). textRefused (groundAt k) (x .at)) (sym means)
 
-          pub read-all : x .at ≡ length s → _≡_ {A = TreeRead} (record { answer = Accepted; tree = record { n = x .n + 1; left = left } }) (readOf (reading s))
-          read-all e =
-              let r : Run = first (runs s) in
-              let st : stopped s r ≡ textAccepted r = rw (eq-eqb (length (spell r)) (length s) (sym at-stop ∙ e)) in
-              read-tree (x .n) (size r) left (lefts r ++ zeros (255 - size r)) (is .counted ∙ zero-add (size r)) (is .written (end-opens s (x .at) e) ∙ padded 255 r few)
-              ∙ sym (ap readOf (read-stopped ∙ st))
+        pub read-closing : m ≡ Closing → blindReading s ≡ textRefused ClosesNothing (x .at)
+        read-closing f = at-other ∙ ap (λ (k : Role). textRefused (groundAt k) (x .at)) f
 
-          module _ (ne : x .at ≡ length s → ⊥) (m : Meaning) (means : m ≡ meaningOf (getD s (x .at) 0)) where
-            at-other : reading s ≡ textRefused (groundAt m) (x .at)
-            at-other =
-                let r : Run = first (runs s) in
-                let st : stopped s r ≡ textRefused (groundAt (meaningOf (getD s (length (spell r)) 0))) (length (spell r)) = rw (ne-eqb (length (spell r)) (length s) (λ h. ne (at-stop ∙ h))) in
-                read-stopped ∙ st
-                ∙ ap (λ (k : ℕ). textRefused (groundAt (meaningOf (getD s k 0))) k) (sym at-stop)
-                ∙ ap (λ (k : Meaning). textRefused (groundAt k) (x .at)) (sym means)
-
-            pub read-closing : m ≡ Closing → reading s ≡ textRefused ClosesNothing (x .at)
-            read-closing f = at-other ∙ ap (λ (k : Meaning). textRefused (groundAt k) (x .at)) f
-
-            pub read-opening : (tag m ≡ 0) ⊎ ((tag m ≡ 1) ⊎ (tag m ≡ 3)) → reading s ≡ textRefused NeverClosed (x .at)
-            read-opening h = at-other ∙ ap (λ (k : Ground). textRefused k (x .at)) (ground-other m h)
+        pub read-opening : (tag m ≡ 0) ⊎ ((tag m ≡ 1) ⊎ (tag m ≡ 3)) → blindReading s ≡ textRefused NeverClosed (x .at)
+        read-opening h = at-other ∙ ap (λ (k : Ground). textRefused k (x .at)) (ground-other m h)

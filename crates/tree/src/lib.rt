@@ -1,16 +1,23 @@
-// Structures in dot-bracket form: what a byte means, and a text read into a tree.
-pub mod character;
+// A text read into a tree.
+mod dot_bracket;
+mod kinds;
 mod run;
 
 use answer::Answer;
 use answer::Ground;
 use answer::Place;
-use character::Meaning;
-use character::first_refused;
-use character::meaning_of;
+use character::Role;
+use dot_bracket::all_dots;
+use dot_bracket::dot_bracket;
+use dot_bracket::dot_role;
+use dot_bracket::first_refused;
+use kinds::first_other_kind;
 use run::read_run;
 ghost use mathlib.Core.Path.{_≡_};
-ghost use Rattle.tree.specs.Reading.{Reading, badLength, reading, readOf, treeOf, single};
+ghost use Prim.Native.Nat.{_≤_};
+ghost use lib.ListN.{length};
+ghost use Rattle.tree.specs.Reading.{Reading, badLength, blindReading, withKinds, reading, readOf, treeOf, single};
+ghost use Rattle.tree.specs.inner.Building.{Known};
 
 // The nodes of a structure, numbered from 0 in postfix order: how many, and the leftmost leaf of each.
 pub struct Tree {
@@ -48,30 +55,61 @@ fn refused(ground: Ground, at: usize) -> TreeRead
     }
 }
 
-// The tree of a text, or the first refusal with its byte and the tree of ".".
-pub fn read(text: &[u8]) -> TreeRead
-    ensures { λ r. ⌜ r ≡ readOf (reading (now (text .entry))) ⌝ }
+// The tree of a text in dot-bracket form without a refused byte, or grounds 3 and 4.
+fn read_known(text: &[u8]) -> TreeRead
+    requires { ⌜ Known (now text) ⌝ }
+    ensures { λ r. ⌜ r ≡ readOf (blindReading (now (text .entry))) ⌝ }
 {
-    let len = text.len();
-    if bad_length(len) {
-        return refused(Ground::TextLength, 0);
-    }
-    let unknown = first_refused(text);
-    if unknown < len {
-        return refused(Ground::UnknownByte, unknown);
-    }
     let mut left = [0u8; 256];
     let end = read_run(text, 0, 0, &mut left[..]);
     let at = end.at;
-    if at == len {
+    if at == text.len() {
         return TreeRead {
             answer: Answer::Accepted,
             tree: Tree { n: end.n + 1, left },
         };
     }
-    let meaning = meaning_of(text[at]);
-    match meaning {
-        Meaning::Closing => refused(Ground::ClosesNothing, at),
+    let role = dot_role(text[at]);
+    match role {
+        Role::Closing => refused(Ground::ClosesNothing, at),
         _ => refused(Ground::NeverClosed, at),
     }
+}
+
+// The same of any text, or grounds 2, 3 and 4 and then 24: it is read in dot-bracket form, which has its roles and not its kinds.
+fn read_written(text: &[u8]) -> TreeRead
+    requires { ⌜ length (now text) ≤ 255 ⌝ }
+    ensures { λ r. ⌜ r ≡ readOf (withKinds (now (text .entry)) (blindReading (now (text .entry)))) ⌝ }
+{
+    let len = text.len();
+    let form = dot_bracket(text);
+    let written = &form[0..len];
+    let unknown = first_refused(written);
+    if unknown < len {
+        return refused(Ground::UnknownByte, unknown);
+    }
+    let read = read_known(written);
+    let answer = read.answer;
+    match answer {
+        Answer::Accepted => {}
+        _ => return read,
+    }
+    let other = first_other_kind(text);
+    if other < len {
+        return refused(Ground::ClosesOtherKind, other);
+    }
+    read
+}
+
+// The tree of a text, or the first refusal with its byte and the tree of ".". Most texts are in dot-bracket form already.
+pub fn read(text: &[u8]) -> TreeRead
+    ensures { λ r. ⌜ r ≡ readOf (reading (now (text .entry))) ⌝ }
+{
+    if bad_length(text.len()) {
+        return refused(Ground::TextLength, 0);
+    }
+    if all_dots(text) {
+        return read_known(text);
+    }
+    read_written(text)
 }

@@ -1,11 +1,12 @@
 // Reading a run of items: a run and an item call each other, by way of the run inside a bracket pair and of the rest behind one. The bytes left to
 // read fall from an item to what is inside it, and from there to the rest behind; from a rest to its run and from a run to an item they stay. So
 // what falls at each call is three times the bytes left, with two more for a rest and one more for a run.
-use super::character::Meaning;
-use super::character::meaning_of;
+use super::dot_bracket::dot_role;
+use character::Role;
 ghost use mathlib.Core.Path.{_≡_};
 ghost use lib.ListN.{getD};
-ghost use Rattle.tree.specs.Reading.{meaningOf};
+ghost use Rattle.character.specs.Character.{roleOf};
+ghost use Rattle.tree.specs.inner.DotBracket.{InDotBracket};
 ghost use Rattle.tree.specs.inner.Building.{Ready, RunRead, ItemRead, Descended, closing};
 
 // How far a text is read: up to the byte at `at`, with n nodes before it.
@@ -38,16 +39,16 @@ fn read_item(text: &[u8], at: usize, n: usize, left: &mut [u8]) -> ReadTo
     if text.len() <= at {
         return ReadTo { at, n };
     }
-    let meaning = meaning_of(text[at]);
-    match meaning {
-        Meaning::Unpaired => {
+    let role = dot_role(text[at]);
+    match role {
+        Role::Unpaired => {
             left[n] = n as u8;
             ReadTo {
                 at: at + 1,
                 n: n + 1,
             }
         }
-        Meaning::Opening => {
+        Role::Opening => {
             let inner = read_inside(text, at + 1, n, left);
             let close = inner.at;
             if !closes(text, close) {
@@ -66,14 +67,15 @@ fn read_item(text: &[u8], at: usize, n: usize, left: &mut [u8]) -> ReadTo
 
 // Whether a closing byte stands at a place.
 fn closes(text: &[u8], at: usize) -> bool
-    ensures { λ r. ⌜ r ≡ closing (meaningOf (getD (now (text .entry)) at 0)) ⌝ }
+    requires { ⌜ InDotBracket (now text) ⌝ }
+    ensures { λ r. ⌜ r ≡ closing (roleOf (getD (now (text .entry)) at 0)) ⌝ }
 {
     if text.len() <= at {
         return false;
     }
-    let meaning = meaning_of(text[at]);
-    match meaning {
-        Meaning::Closing => true,
+    let role = dot_role(text[at]);
+    match role {
+        Role::Closing => true,
         _ => false,
     }
 }
@@ -86,13 +88,13 @@ fn descend(text: &[u8], at: usize, n: usize, left: &mut [u8]) -> ReadTo
     let mut i = at;
     let mut m = n;
     while i < text.len() {
-        let meaning = meaning_of(text[i]);
-        match meaning {
-            Meaning::Unpaired => {
+        let role = dot_role(text[i]);
+        match role {
+            Role::Unpaired => {
                 left[m] = m as u8;
                 m += 1;
             }
-            Meaning::Opening => {}
+            Role::Opening => {}
             _ => return ReadTo { at: i, n: m },
         }
         i += 1;
@@ -111,9 +113,9 @@ fn read_inside(text: &[u8], at: usize, n: usize, left: &mut [u8]) -> ReadTo
     let mut p = here.at;
     while at < p {
         p -= 1;
-        let meaning = meaning_of(text[p]);
-        match meaning {
-            Meaning::Unpaired => {
+        let role = dot_role(text[p]);
+        match role {
+            Role::Unpaired => {
                 m -= 1;
             }
             _ => {

@@ -5,22 +5,23 @@ use Prim.Native.Nat.{ℕ, _+_}
 use mathlib.Core.List.{List, [], _∷_}
 use lib.Dec.{leb, ltb}
 use Rattle.tree.specs.Run.{Run}
-use Rattle.tree.specs.Reading.{meaningOf, reading}
+use Rattle.character.specs.Character.{roleOf}
+use Rattle.tree.specs.Reading.{reading}
 use Rattle.tree.specs.Reading.Reading.{textAccepted}
 use Rattle.stretch.specs.Stretch.{stretchIn, locatedBy}
-use Rattle.tree.specs.declared.character.Meaning.{Meaning}
-use Rattle.tree.specs.declared.character.Meaning.the-variants.{Unpaired, Opening, Closing, Refused}
+use Rattle.character.specs.declared.Role.{Role}
+use Rattle.character.specs.declared.Role.the-variants.{Unpaired, Opening, Closing, Refused}
 use Rattle.stretch.specs.declared.search.Scan.{Scan}
 use Rattle.stretch.specs.declared.search.Located.{Located}
 
 -- The nodes that a byte ends, and how many bytes such a node has of its own.
-abbrev pub endsOf : Meaning → ℕ
+abbrev pub endsOf : Role → ℕ
 endsOf Unpaired = 1
 endsOf Opening = 0
 endsOf Closing = 1
 endsOf Refused = 0
 
-abbrev pub ownBytes : Meaning → ℕ
+abbrev pub ownBytes : Role → ℕ
 ownBytes Unpaired = 1
 ownBytes Opening = 0
 ownBytes Closing = 2
@@ -30,8 +31,8 @@ ownBytes Refused = 0
 abbrev pub counted : ℕ → ℕ → Scan → Scan
 counted a x c = record {
   at = c .at + 1;
-  nodes = c .nodes + endsOf (meaningOf x);
-  width = c .width + cond (leb a (c .nodes)) (ownBytes (meaningOf x)) 0;
+  nodes = c .nodes + endsOf (roleOf x);
+  width = c .width + cond (leb a (c .nodes)) (ownBytes (roleOf x)) 0;
 }
 
 abbrev pub unmoved : Scan

@@ -1,6 +1,6 @@
 -- What is built of a tree while a text is read.
 use mathlib.Core.Path.{_≡_}
-use mathlib.Core.Bool.{Bool, true, false, _&&_}
+use mathlib.Core.Bool.{Bool, true, false}
 use mathlib.Core.Logic.{_⊎_}
 use Prim.Native.Nat.{ℕ, zero, suc, _+_, _≤_, _<_}
 use mathlib.Core.List.{List, [], _∷_}
@@ -8,9 +8,11 @@ use lib.ListN.{length, getD, set, drop}
 use lib.Seq.{sets}
 use Rattle.tree.specs.Run.{Run, spell, size, leftsFrom}
 use Rattle.tree.specs.Run.Run.{end, dot, pair}
-use Rattle.tree.specs.Reading.{meaningOf, first, runs}
-use Rattle.tree.specs.declared.character.Meaning.{Meaning}
-use Rattle.tree.specs.declared.character.Meaning.the-variants.{Unpaired, Opening, Closing, Refused}
+use Rattle.character.specs.Character.{roleOf}
+use Rattle.tree.specs.Reading.{first, runs, firstRefused}
+use Rattle.character.specs.declared.Role.{Role}
+use Rattle.character.specs.declared.Role.the-variants.{Unpaired, Opening, Closing, Refused}
+use Rattle.tree.specs.inner.DotBracket.{InDotBracket}
 use Rattle.tree.specs.declared.run.ReadTo.{ReadTo}
 
 -- The run that is read from a byte of a text on.
@@ -23,8 +25,10 @@ itemOf end = end
 itemOf (dot c r) = dot c end
 itemOf (pair o i c r) = pair o i c end
 
--- Where a run can be read: at a byte of a text of at most 255, with no more nodes before it than bytes, and room for a leaf for each byte.
+-- Where a run can be read: at a byte of a text of at most 255 in dot-bracket form, with no more nodes before it than bytes, and room for a leaf for
+-- each byte.
 pub record Ready (s : List ℕ) (at n : ℕ) (left : List ℕ) : Type 0 where
+  pub form : InDotBracket s
   pub short : length s ≤ 255
   pub inside : at ≤ length s
   pub fewer : n ≤ at
@@ -39,7 +43,7 @@ pub record Built (r : Run) (stuck : Type 0) (at n : ℕ) (left : List ℕ) (x : 
 
 -- An opening byte stands at a place of a text.
 abbrev pub OpensAt : List ℕ → ℕ → Type 0
-OpensAt s at = meaningOf (getD s at 0) ≡ Opening
+OpensAt s at = roleOf (getD s at 0) ≡ Opening
 
 -- A run is stuck where it stops at an opening byte.
 abbrev pub RunRead : List ℕ → ℕ → ℕ → List ℕ → ReadTo → List ℕ → Type 0
@@ -49,21 +53,21 @@ RunRead s at n left x after = Built (runAt s at) (OpensAt s (x .at)) at n left x
 abbrev pub ItemRead : List ℕ → ℕ → ℕ → List ℕ → ReadTo → List ℕ → Type 0
 ItemRead s at n left x after = Built (itemOf (runAt s at)) ((x .at ≡ at) × OpensAt s at) at n left x after
 
--- Whether a byte of some meaning closes a bracket.
-abbrev pub closing : Meaning → Bool
+-- Whether a byte of some role closes a bracket.
+abbrev pub closing : Role → Bool
 closing Unpaired = false
 closing Opening = false
 closing Closing = true
 closing Refused = false
 
 -- How many nodes there are with a byte more, and what leaves are written.
-abbrev pub withNode : Meaning → ℕ → ℕ
+abbrev pub withNode : Role → ℕ → ℕ
 withNode Unpaired n = suc n
 withNode Opening n = n
 withNode Closing n = n
 withNode Refused n = n
 
-abbrev pub withLeaf : Meaning → ℕ → List ℕ → List ℕ
+abbrev pub withLeaf : Role → ℕ → List ℕ → List ℕ
 withLeaf Unpaired n left = set left n n
 withLeaf Opening n left = left
 withLeaf Closing n left = left
@@ -72,15 +76,15 @@ withLeaf Refused n left = left
 -- The same past k bytes, dots and opening ones, from a byte on.
 unfoldable pub nodesPast : List ℕ → ℕ → ℕ → ℕ → ℕ
 nodesPast s at n zero = n
-nodesPast s at n (suc k) = withNode (meaningOf (getD s (at + k) 0)) (nodesPast s at n k)
+nodesPast s at n (suc k) = withNode (roleOf (getD s (at + k) 0)) (nodesPast s at n k)
 
 unfoldable pub leavesPast : List ℕ → ℕ → ℕ → List ℕ → ℕ → List ℕ
 leavesPast s at n left zero = left
-leavesPast s at n left (suc k) = withLeaf (meaningOf (getD s (at + k) 0)) (nodesPast s at n k) (leavesPast s at n left k)
+leavesPast s at n left (suc k) = withLeaf (roleOf (getD s (at + k) 0)) (nodesPast s at n k) (leavesPast s at n left k)
 
 -- So many dots and opening bytes stand from a byte on.
 abbrev pub Down : List ℕ → ℕ → ℕ → Type 0
-Down s at k = (i : ℕ) → i < k → (meaningOf (getD s (at + i) 0) ≡ Unpaired) ⊎ (meaningOf (getD s (at + i) 0) ≡ Opening)
+Down s at k = (i : ℕ) → i < k → (roleOf (getD s (at + i) 0) ≡ Unpaired) ⊎ (roleOf (getD s (at + i) 0) ≡ Opening)
 
 -- They are passed, up to a closing byte, a refused one or the end.
 pub record Descended (s : List ℕ) (at n : ℕ) (left : List ℕ) (x : ReadTo) (after : List ℕ) : Type 0 where
@@ -90,15 +94,15 @@ pub record Descended (s : List ℕ) (at n : ℕ) (left : List ℕ) (x : ReadTo) 
   pub down : Down s at bytes
   pub counted : x .n ≡ nodesPast s at n bytes
   pub written : after ≡ leavesPast s at n left bytes
-  pub stops : (meaningOf (getD s (x .at) 0) ≡ Closing) ⊎ (meaningOf (getD s (x .at) 0) ≡ Refused)
+  pub stops : (roleOf (getD s (x .at) 0) ≡ Closing) ⊎ (roleOf (getD s (x .at) 0) ≡ Refused)
 
--- Whether a byte of some meaning is not refused, and whether no byte of a text is.
-abbrev pub known : Meaning → Bool
-known Unpaired = true
-known Opening = true
-known Closing = true
-known Refused = false
+-- A text of at most 255 bytes in dot-bracket form that has no refused byte.
+pub record Known (s : List ℕ) : Type 0 where
+  pub form : InDotBracket s
+  pub short : length s ≤ 255
+  pub known : length s ≤ firstRefused s
 
-abbrev pub allKnown : List ℕ → Bool
-allKnown [] = true
-allKnown (c ∷ s) = known (meaningOf c) && allKnown s
+-- The kinds of so many open brackets, that of the last one first, out of an array that has it last.
+abbrev pub opened : List ℕ → ℕ → List ℕ
+opened kinds zero = []
+opened kinds (suc d) = getD kinds d 0 ∷ opened kinds d

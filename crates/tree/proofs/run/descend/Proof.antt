@@ -4,8 +4,8 @@ use mathlib.Core.Logic.{_⊎_, inl, inr}
 use Prim.Native.Nat.{_-_}
 use native.Mathlib.Omega.{arith}
 use lib.ListN.{length}
-use Rattle.tree.specs.declared.character.Meaning.the-variants.{Closing, Refused}
-use Rattle.tree.proofs.Meanings.{closing-or-refused}
+use Rattle.character.specs.declared.Role.the-variants.{Closing, Refused}
+use Rattle.tree.proofs.Roles.{closing-or-refused}
 use Rattle.tree.proofs.Descents.{Passed, pass-start, pass-few, pass-long, pass-dot, pass-open, pass-stop, pass-end}
 use Rattle.tree.proofs.run.descend.Statement.{statement}
 use Rattle.tree.proofs.run.descend.Tie as tie
@@ -19,11 +19,11 @@ abbrev μ-loop : tie.MeasureT-loop
 loop-holds : tie.Need-loop-holds Inv-loop μ-loop
 loop-holds c = pass-start _ _ _ _ (c .before .before .pre .inside)
 
-shared-slice-read-meaning-of : tie.Need-shared-slice-read-meaning-of Inv-loop μ-loop
-shared-slice-read-meaning-of c = c .before .loop-test .taken
+shared-slice-read-dot-role : tie.Need-shared-slice-read-dot-role Inv-loop μ-loop
+shared-slice-read-dot-role c = c .before .loop-test .taken
 
-meaning-of-requires : tie.Need-meaning-of-requires Inv-loop μ-loop
-meaning-of-requires c κs = tt
+dot-role-requires : tie.Need-dot-role-requires Inv-loop μ-loop
+dot-role-requires c κs = c .before .before .before .before .before .pre .form _
 
 enum-told : tie.Need-enum-told Inv-loop μ-loop
 enum-told c = c .match .keys1
@@ -44,7 +44,7 @@ same-length : tie.Need-same-length Inv-loop μ-loop
 same-length c = pass-long _ _ _ _ (c .before .before .before .before .loop .inv)
 
 returns : tie.Need-returns Inv-loop μ-loop
-returns c = pass-stop _ _ _ _ (c .before .before .before .before .loop .inv) (subst (λ q. (q ≡ Closing) ⊎ (q ≡ Refused)) (c .before .meaning-of .ensures) (closing-or-refused _ (c .match .keys3)))
+returns c = pass-stop _ _ _ _ (c .before .before .before .before .loop .inv) (subst (λ q. (q ≡ Closing) ⊎ (q ≡ Refused)) (c .before .dot-role .ensures) (closing-or-refused _ (c .match .keys3)))
 
 add-i : tie.Need-add-i Inv-loop μ-loop
 add-i c = omega (arith, c .before .before .before .loop-test .taken, c .before .before .before .before .before .before .before .pre .short)
@@ -54,8 +54,8 @@ loop-less c = omega (arith, c .before .before .before .loop-test .taken)
 
 loop-again : tie.Need-loop-again Inv-loop μ-loop
 loop-again c = elim (c .match .came) [
-  | inl x ↦ rw (x .2, x .3) (pass-dot _ _ _ _ (c .before .before .before .before .loop .inv) (c .before .before .before .loop-test .taken) (sym (c .before .meaning-of .ensures) ∙ x .1 .given .1))
-  | inr x ↦ rw (x .2, x .3) (pass-open _ _ _ _ (c .before .before .before .before .loop .inv) (c .before .before .before .loop-test .taken) (sym (c .before .meaning-of .ensures) ∙ x .1 .given .1))
+  | inl x ↦ rw (x .2, x .3) (pass-dot _ _ _ _ (c .before .before .before .before .loop .inv) (c .before .before .before .loop-test .taken) (sym (c .before .dot-role .ensures) ∙ x .1 .given .1))
+  | inr x ↦ rw (x .2, x .3) (pass-open _ _ _ _ (c .before .before .before .before .loop .inv) (c .before .before .before .loop-test .taken) (sym (c .before .dot-role .ensures) ∙ x .1 .given .1))
 ]
 
 same-length-2 : tie.Need-same-length-2 Inv-loop μ-loop
@@ -71,8 +71,8 @@ descend-spec =
     Inv-loop
     μ-loop
     loop-holds
-    shared-slice-read-meaning-of
-    meaning-of-requires
+    shared-slice-read-dot-role
+    dot-role-requires
     enum-told
     cast-left
     slice-write-left

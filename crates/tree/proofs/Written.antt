@@ -1,0 +1,104 @@
+-- A text written in dot-bracket form, byte by byte, and what is read of it.
+use mathlib.Core.Path.{_≡_, refl, sym, ap, ap₂, subst, _∙_}
+use mathlib.Core.Bool.{true}
+use Prim.Native.Nat.{ℕ, suc, _+_, _-_, _≤_, _<_}
+use native.Mathlib.Omega.{arith}
+use native.Mathlib.Numerals.{add-one}
+use mathlib.Core.List.{List, [], _∷_, _++_, map-append}
+use lib.ListN.{length, getD, take, set, length-set}
+use lib.Seq.{take-all, take-suc, take-suc-set}
+use borrow.Author.Tests.{lt-ltb, le-ltb}
+use Rattle.answer.specs.declared.Ground.the-variants.{UnknownByte, ClosesOtherKind}
+use Rattle.answer.specs.declared.Answer.the-variants.{Accepted}
+use Rattle.answer.proofs.Denied.{denies}
+use Rattle.character.specs.Character.{roleOf}
+use Rattle.tree.specs.Run.{Run}
+use Rattle.tree.specs.Reading.{Reading, readOf, firstRefused, blindReading, firstOtherKind, withKinds}
+use Rattle.tree.specs.Reading.Reading.{textAccepted, textRefused}
+use Rattle.tree.specs.inner.DotBracket.{InDotBracket, allDots, dotByte, dotBracketOf}
+use Rattle.tree.specs.inner.Building.{Known}
+use Rattle.tree.specs.declared.TreeRead.{TreeRead}
+use Rattle.tree.proofs.DotBrackets.{dots-form, dots-known, dots-kinds, form-in, form-length, form-refused, form-blind}
+use Rattle.tree.proofs.Texts.{blind-unknown}
+
+-- The bytes up to i are written.
+pub record WrittenTo (s : List ℕ) (i : ℕ) (form : List ℕ) : Type 0 where
+  pub inside : i ≤ length s
+  pub room : length form ≡ 256
+  pub is : take i form ≡ dotBracketOf (take i s)
+
+pub written-start : (s form : List ℕ) → length form ≡ 256 → WrittenTo s 0 form
+written-start s form h = record { inside = omega arith; room = h; is = refl }
+
+pub written-turn : (s form : List ℕ) (i : ℕ) {b : ℕ} → WrittenTo s i form → length s ≤ 255 → i < length s → b ≡ dotByte (roleOf (getD s i 0)) → WrittenTo s (i + 1) (set form i b)
+written-turn s form i {b} h few lt e =
+    record {
+      inside = omega arith;
+      room = length-set form i b ∙ h .room;
+      is = ap (λ (k : ℕ). take k (set form i b)) (add-one i)
+          ∙ take-suc-set form i b (omega (arith, h .room))
+          ∙ ap₂ (λ (l : List ℕ) (x : ℕ). l ++ x ∷ []) (h .is) e
+          ∙ sym (map-append (λ (c : ℕ). dotByte (roleOf c)) (take i s) (getD s i 0 ∷ []))
+          ∙ ap dotBracketOf (sym (take-suc s i 0 lt) ∙ ap (λ (k : ℕ). take k s) (sym (add-one i)));
+    }
+
+pub written-end : (s form : List ℕ) (i : ℕ) → WrittenTo s i form → length s ≤ i → take (length s) form ≡ dotBracketOf s
+written-end s form i h le =
+    let all : i ≡ length s = omega (arith, h .inside) in
+    ap (λ (k : ℕ). take k form) (sym all) ∙ h .is ∙ ap (λ (k : ℕ). dotBracketOf (take k s)) all ∙ ap dotBracketOf (take-all (length s) s (omega arith))
+
+-- A text of dots and round brackets needs no other form, and no look at its kinds.
+module _ (s : List ℕ) (dots : allDots s ≡ true) where
+  pub plain-known : length s ≤ 255 → Known s
+  plain-known short = record { form = dots-form s dots; short = short; known = omega (arith, dots-known s dots) }
+
+  pub plain-read : withKinds s (blindReading s) ≡ blindReading s
+  plain-read = go (blindReading s)
+    where
+      go : (x : Reading) → withKinds s x ≡ x
+      go (textAccepted r) = rw (dots-kinds s dots, le-ltb (length s) (length s) (omega arith))
+      go (textRefused g k) = refl
+
+-- What is read of a text in its dot-bracket form, in each case of the code.
+module _ (s w : List ℕ) (short : length s ≤ 255) (is : w ≡ dotBracketOf s) where
+  pub written-form : InDotBracket w
+  written-form = subst InDotBracket (sym is) (form-in s)
+
+  module _ (u : ℕ) (unknown : u ≡ firstRefused w) where
+    is-first : u ≡ firstRefused s
+    is-first = unknown ∙ ap firstRefused is ∙ form-refused s
+
+    pub written-refused : u < length s → readOf (textRefused UnknownByte u) ≡ readOf (withKinds s (blindReading s))
+    written-refused h = ap (λ (k : ℕ). readOf (textRefused UnknownByte k)) is-first ∙ sym (ap (λ (x : Reading). readOf (withKinds s x)) (blind-unknown s (omega (arith, is-first))))
+
+    pub written-known : length s ≤ u → Known w
+    written-known h =
+        let same : length w ≡ length s = ap length is ∙ form-length s in
+        record { form = written-form; short = omega arith; known = omega (arith, unknown) }
+
+  module _ (x : TreeRead) (read : x ≡ readOf (blindReading w)) where
+    is-blind : x ≡ readOf (blindReading s)
+    is-blind = read ∙ ap (λ (l : List ℕ). readOf (blindReading l)) is ∙ form-blind s
+
+    -- A refusal stays, and an acceptance waits for the kinds.
+    pub written-stops : (x .answer ≡ Accepted → ⊥) → x ≡ readOf (withKinds s (blindReading s))
+    written-stops denied = go (blindReading s) is-blind
+      where
+        go : (y : Reading) → x ≡ readOf y → x ≡ readOf (withKinds s y)
+        go (textAccepted r) e = absurd (denied (ap (λ (t : TreeRead). t .answer) e))
+        go (textRefused g k) e = e
+
+    module _ (ok : x .answer ≡ Accepted) (o : ℕ) (other : o ≡ firstOtherKind s []) where
+      pub written-other : o < length s → readOf (textRefused ClosesOtherKind o) ≡ readOf (withKinds s (blindReading s))
+      written-other h = go (blindReading s) is-blind
+        where
+          go : (y : Reading) → x ≡ readOf y → readOf (textRefused ClosesOtherKind o) ≡ readOf (withKinds s y)
+          go (textAccepted r) e = rw (← other, lt-ltb o (length s) h)
+          go (textRefused g k) e = absurd (denies (ap (λ (t : TreeRead). t .answer) e) ok)
+
+      pub written-read : length s ≤ o → x ≡ readOf (withKinds s (blindReading s))
+      written-read h = go (blindReading s) is-blind
+        where
+          go : (y : Reading) → x ≡ readOf y → x ≡ readOf (withKinds s y)
+          go (textAccepted r) e = rw (← other, le-ltb o (length s) h) e
+          go (textRefused g k) e = e

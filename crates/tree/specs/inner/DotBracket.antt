@@ -1,0 +1,39 @@
+-- Texts in dot-bracket form (document 01), in which every text is read.
+use mathlib.Core.Path.{_≡_}
+use mathlib.Core.Bool.{Bool, true, cond, _&&_, _||_}
+use Prim.Native.Nat.{ℕ}
+use mathlib.Core.List.{List, [], _∷_, map}
+use lib.ListN.{getD}
+use lib.Dec.{eqb}
+use Rattle.character.specs.Character.{roleOf}
+use Rattle.character.specs.declared.Role.{Role}
+use Rattle.character.specs.declared.Role.the-variants.{Unpaired, Opening, Closing, Refused}
+
+-- The role of a byte where only the dot and the round brackets have one.
+abbrev pub dotRole : ℕ → Role
+dotRole b = cond (eqb b 46) Unpaired (cond (eqb b 40) Opening (cond (eqb b 41) Closing Refused))
+
+-- A byte that may stand in dot-bracket form: a dot, a round bracket, or one that is refused in either.
+abbrev pub ReadAsDot : ℕ → Type 0
+ReadAsDot b = dotRole b ≡ roleOf b
+
+abbrev pub InDotBracket : List ℕ → Type 0
+InDotBracket s = (i : ℕ) → ReadAsDot (getD s i 0)
+
+-- Whether a byte is a dot or a round bracket, and whether all bytes of a text are.
+abbrev pub isDot : ℕ → Bool
+isDot b = eqb b 46 || (eqb b 40 || eqb b 41)
+
+abbrev pub allDots : List ℕ → Bool
+allDots [] = true
+allDots (c ∷ s) = isDot c && allDots s
+
+-- The byte that plays a role in dot-bracket form, and the text in it. Byte 0 is refused.
+abbrev pub dotByte : Role → ℕ
+dotByte Unpaired = 46
+dotByte Opening = 40
+dotByte Closing = 41
+dotByte Refused = 0
+
+abbrev pub dotBracketOf : List ℕ → List ℕ
+dotBracketOf s = map (λ (b : ℕ). dotByte (roleOf b)) s
