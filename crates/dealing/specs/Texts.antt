@@ -1,4 +1,4 @@
--- Two texts read, Q before T (document 01, grounds 1 to 4).
+-- Two texts read, Q before T (document 01, grounds 1 to 4; document 02, b, ground 24).
 use mathlib.Core.List.{List}
 use Prim.Native.Nat.{ℕ}
 use Rattle.answer.specs.declared.Place.the-variants.{ByteInQ, ByteInT, Seed, Nothing}

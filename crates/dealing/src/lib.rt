@@ -62,7 +62,7 @@ fn refused_deal(answer: Answer) -> Dealt
     }
 }
 
-// Two texts and a deck, by grounds 1 to 4 of Q, then of T, and those of the deck on the two trees.
+// Two texts and a deck, by grounds 1 to 4 and 24 of Q, then of T, and those of the deck on the two trees.
 pub fn deal(q: &[u8], t: &[u8], deck: &[u8]) -> Dealt
     ensures { λ r. ⌜ Deals (now (q .entry)) (now (t .entry)) (now (deck .entry)) r ⌝ }
 {

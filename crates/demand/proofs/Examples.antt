@@ -2,6 +2,7 @@
 use mathlib.Core.Path.{refl}
 use mathlib.Core.List.{_++_, flatten}
 use Rattle.tree.specs.Nested.{leaf}
+use Rattle.character.specs.Character.{meaningOf}
 use Rattle.tree.specs.Reading.{reading, badLength}
 use Rattle.stretch.specs.Stretch.{stretchIn, partOf}
 use Rattle.seed.specs.Tab.{tab}
@@ -24,5 +25,5 @@ use Rattle.chain.specs.Opening.{opening, deckOpening}
 use Rattle.demand.specs.Examples.{starred, onEmptyText, Hold}
 
 pub examples : Hold (starred ++ onEmptyText)
-unfolding opening bothRead reading badLength leaf grounds nextAnswer limitAnswer pairsInAll inRange countAnswer judgeOf every some everyBelow above inSubtree nodeIn nodesIn risesFrom rises alikeAt alikeTo alike rootOf rooted spans children paired bordered areasOf areas boxes boxRow begins boxAt column lastBelow firstBelow bytesOf fits level side rowOf withRow givenOut stretchIn partOf keyOf best better noBetter _⊕_ empty inMask tab chainable left under presentRows deckOf plainOf plainSeeds plainPairs plainChain deckOfRecords seedBytes pairBytes bytes16 bytes32 unsigned flatten deckOpening dealOf dealAnswer deckAnswer seedsAnswer deckReading badLayout number16 number32 signed seedRecord pairRecord seedCount zeroByte pairCount seedRecords pairRecords recordOf isIn rowsBy atIndex walk seedWalk walks allIn settled
+unfolding opening bothRead reading badLength meaningOf leaf grounds nextAnswer limitAnswer pairsInAll inRange countAnswer judgeOf every some everyBelow above inSubtree nodeIn nodesIn risesFrom rises alikeAt alikeTo alike rootOf rooted spans children paired bordered areasOf areas boxes boxRow begins boxAt column lastBelow firstBelow bytesOf fits level side rowOf withRow givenOut stretchIn partOf keyOf best better noBetter _⊕_ empty inMask tab chainable left under presentRows deckOf plainOf plainSeeds plainPairs plainChain deckOfRecords seedBytes pairBytes bytes16 bytes32 unsigned flatten deckOpening dealOf dealAnswer deckAnswer seedsAnswer deckReading badLayout number16 number32 signed seedRecord pairRecord seedCount zeroByte pairCount seedRecords pairRecords recordOf isIn rowsBy atIndex walk seedWalk walks allIn settled
 examples = (refl, (refl, (refl, (refl, (refl, (refl, (refl, (refl, (refl, (refl, (refl, (refl, (refl, (refl, (refl, (refl, (refl, (refl, (refl, (refl, (refl, (refl, (refl, (refl, (refl, (refl, (refl, (refl, (refl, (refl, (refl, (refl, (refl, (refl, (refl, tt)))))))))))))))))))))))))))))))))))

@@ -82,7 +82,7 @@ pub data OfT (Says : Said → Type 0) : Said → Type 0 where
   byte : {n k : ℕ} → Says (refused n (ByteInQ k)) → OfT Says (refused n (ByteInT k))
   none : Says accepted → OfT Says accepted
 
--- Opening on two texts: Q is judged by 1 to 4 before T.
+-- Opening on two texts: Q is judged by 1 to 4 and 24 before T.
 abbrev pub OpenSays : List ℕ → List ℕ → Said → Type 0
 OpenSays q t = TextSays q then OfT (TextSays t)
 

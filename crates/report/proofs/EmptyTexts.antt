@@ -8,6 +8,7 @@ use lib.ListN.{replicate}
 use borrow.Author.Tests.{eqb-true}
 use Rattle.write.specs.Decimal.{bytes, digits}
 use Rattle.tree.specs.Run.{Run}
+use Rattle.character.specs.Character.{meaningOf}
 use Rattle.tree.specs.Reading.{Spells, badLength, reading}
 use Rattle.tree.proofs.Grounds.{accepted-exactly}
 use Rattle.seed.specs.Seed.{_∈_}
@@ -61,5 +62,5 @@ pub empty-printed :
     ∷ bytes "refused 4 Q 0\n"
     ∷ bytes "score 0\nchain\n"
     ∷ []
-unfolding linesOf outcomeOf readBytes ahead behind deckOpening dealOf dealAnswer bothRead reading badLength deckAnswer deckReading badLayout refusalLine placed resultLines scoreLine chainLine members member digits seedCount zeroByte pairCount number16 seedRecords pairRecords walks settled allIn rowsBy flatten seedsAnswer keyOf best empty inMask tab
+unfolding linesOf outcomeOf readBytes ahead behind deckOpening dealOf dealAnswer bothRead reading badLength meaningOf deckAnswer deckReading badLayout refusalLine placed resultLines scoreLine chainLine members member digits seedCount zeroByte pairCount number16 seedRecords pairRecords walks settled allIn rowsBy flatten seedsAnswer keyOf best empty inMask tab
 empty-printed = refl

@@ -10,6 +10,7 @@ use Rattle.answer.specs.declared.Ground.the-variants.{OutsideTree}
 use Rattle.answer.specs.declared.Place.the-variants.{Nothing}
 use Rattle.answer.specs.declared.Answer.the-variants.{Accepted, Refused}
 use Rattle.answer.proofs.Denied.{denies}
+use Rattle.character.specs.Character.{meaningOf}
 use Rattle.tree.specs.Run.{Run, spell}
 use Rattle.tree.specs.Reading.{Reading, badLength, reading}
 use Rattle.tree.specs.Reading.Reading.{textAccepted}
@@ -39,7 +40,7 @@ module _ {text r : RefT (List ℕ)} {a b : ℕ} (w : HandsBack text a b r) where
 
 -- The empty text has no stretch (document 02, f): whatever the two numbers are, they are refused on 15 without a place, and the empty part is handed back.
 pub empty-no-stretch : (a b : ℕ) → checkOf [] a b ≡ Refused OutsideTree Nothing
-unfolding checkOf reading badLength stretchIn
+unfolding checkOf reading badLength meaningOf stretchIn
 empty-no-stretch a b = go (leb a b)
   where
     go : (t : Bool) → locatedBy (cond t nowhere nowhere) .answer ≡ Refused OutsideTree Nothing

@@ -13,14 +13,14 @@ use borrow.Author.Tests.{le-leb, lt-leb, lt-ltb, le-ltb}
 use Rattle.tree.specs.Run.{Run, spell, size}
 use Rattle.tree.specs.Run.Run.{end, dot, pair}
 use Rattle.character.specs.Character.{roleOf}
-use Rattle.tree.specs.Reading.{Meant}
+use Rattle.tree.specs.Reading.{Meant, OneKind}
 use Rattle.stretch.specs.inner.Scan.{endsOf, ownBytes, counted, unmoved, scanTo}
 use Rattle.character.specs.declared.Role.{Role}
 use Rattle.character.specs.declared.Role.the-variants.{Unpaired, Opening, Closing, Refused}
 use Rattle.stretch.specs.declared.search.Scan.{Scan}
 use Rattle.tree.proofs.Leaves.{lt-or-le}
 
--- What the bytes of a text weigh together, each by its meaning.
+-- What the bytes of a text weigh together, each by its role.
 abbrev pub weight : (Role → ℕ) → List ℕ → ℕ
 weight f [] = 0
 weight f (x ∷ s) = f (roleOf x) + weight f s
@@ -71,6 +71,7 @@ pub record Spelled (s : List ℕ) (a b : ℕ) : Type 0 where
   pub run : Run
   pub back : List ℕ
   pub meant : Meant run
+  pub kinds : OneKind run
   pub split : s ≡ front ++ (spell run ++ back)
   pub start : ends front ≡ a
   pub order : a ≤ b
@@ -225,8 +226,8 @@ module _ (a : ℕ) where
             ∙ take-append-seam (spell (w .run)) (w .back)
 
       -- Where the part that it ends with spells a run of the right number of nodes, those are the nodes a to b.
-      pub spells : a ≤ b → b < c .nodes → c .width ≤ c .at → (y : Run) → Meant y → take (c .at - (c .at - c .width)) (drop (c .at - c .width) s) ≡ spell y → size y ≡ b - a + 1 → Spelled s a b
-      spells le nb fit y my e z =
+      pub spells : a ≤ b → b < c .nodes → c .width ≤ c .at → (y : Run) → Meant y → OneKind y → take (c .at - (c .at - c .width)) (drop (c .at - c .width) s) ≡ spell y → size y ≡ b - a + 1 → Spelled s a b
+      spells le nb fit y my ky e z =
           let i : ℕ = c .at - c .width in
           let n : ℕ = c .at - i in
           let p = passes unmoved s in
@@ -241,6 +242,7 @@ module _ (a : ℕ) where
             front = take i s;
             run = y;
             meant = my;
+            kinds = ky;
             back = drop n (drop i s);
             split = sym (take-append-drop i s) ∙ ap (λ (k : List ℕ). take i s ++ k) (sym (take-append-drop n (drop i s)) ∙ ap (λ (k : List ℕ). k ++ drop n (drop i s)) e);
             start = omega (arith, ap (λ (k : Scan). k .nodes) is);

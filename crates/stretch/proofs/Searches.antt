@@ -9,7 +9,7 @@ use Rattle.answer.specs.declared.Answer.{Answer}
 use Rattle.answer.specs.declared.Answer.the-variants.{Accepted}
 use Rattle.tree.specs.Run.{Run, spell, size, join}
 use Rattle.tree.specs.Run.Run.{end, dot, pair}
-use Rattle.tree.specs.Reading.{Meant, Reading, reading, readOf}
+use Rattle.tree.specs.Reading.{Meant, OneKind, Reading, reading, readOf}
 use Rattle.tree.specs.Reading.Reading.{textAccepted, textRefused}
 use Rattle.stretch.specs.Stretch.{Siblings, Stretch, Found, stretchIn, locatedBy, located, locatedIn, spelled, part, partOf}
 use Rattle.stretch.specs.Stretch.Siblings.{here, behind-dot, into, behind-pair}
@@ -37,6 +37,18 @@ meant-siblings m (behind-dot w) = meant-siblings (m .1) w
 meant-siblings m (into w) = meant-siblings (m .1) w
 meant-siblings m (behind-pair w) = meant-siblings (m .3) w
 
+-- So are those of a run whose pairs are each of one kind.
+kinds-join : (y z : Run) → OneKind (join y z) → OneKind y
+kinds-join end z k = tt
+kinds-join (dot c y) z k = kinds-join y z k
+kinds-join (pair o i c y) z k = (k .0, k .1, kinds-join y z (k .2))
+
+kinds-siblings : {y r : Run} {a k : ℕ} → OneKind r → Siblings y r a k → OneKind y
+kinds-siblings {y = y} one (here z e) = kinds-join y z (subst OneKind e one)
+kinds-siblings one (behind-dot w) = kinds-siblings one w
+kinds-siblings one (into w) = kinds-siblings (one .1) w
+kinds-siblings one (behind-pair w) = kinds-siblings (one .2) w
+
 -- A text that is accepted with a run.
 module _ (s : List ℕ) (a b : ℕ) (r : Run) (ok : reading s ≡ textAccepted r) where
   text : s ≡ spell r
@@ -44,6 +56,9 @@ module _ (s : List ℕ) (a b : ℕ) (r : Run) (ok : reading s ≡ textAccepted r
 
   meant : Meant r
   meant = accepted-spell s r ok .1
+
+  kinds : OneKind r
+  kinds = accepted-spell s r ok .3
 
   in-tree : (w : Spelled s a b) → Stretch r a b (length (w .front)) (w .run)
   in-tree w =
@@ -56,7 +71,7 @@ module _ (s : List ℕ) (a b : ℕ) (r : Run) (ok : reading s ≡ textAccepted r
   in-text : {k : ℕ} {y : Run} → Stretch r a b k y → Spelled s a b
   in-text {y = y} w =
       let v = stands meant (w .siblings) in
-      record { front = v .front; run = y; back = v .back; meant = meant-siblings meant (w .siblings); split = text ∙ v .split; start = v .start; order = w .order; count = w .count }
+      record { front = v .front; run = y; back = v .back; meant = meant-siblings meant (w .siblings); kinds = kinds-siblings kinds (w .siblings); split = text ∙ v .split; start = v .start; order = w .order; count = w .count }
 
   -- The bytes of a stretch spell it.
   spelled-part : {k : ℕ} {y : Run} → Stretch r a b k y → (k + length (spell y) ≤ length s) × (take (length (spell y)) (drop k s) ≡ spell y)
@@ -109,7 +124,7 @@ module _ (s : List ℕ) (a b : ℕ) (l : Located) where
       reads-part : length s ≤ 255 → (w : Spelled s a b) → (x .answer ≡ Accepted) × (x .tree .n ≡ b - a + 2)
       reads-part short w =
           let m : length (spell (w .run)) ≤ 255 = omega (arith, scan-at a b s c is w, scan-inside a b s c is) in
-          let f : x ≡ readOf (textAccepted (w .run)) = read ∙ ap readOf (ap reading (scan-part a b s c is w) ∙ read-accepts (w .run) (w .meant) (length-fits (length (spell (w .run))) m)) in
+          let f : x ≡ readOf (textAccepted (w .run)) = read ∙ ap readOf (ap reading (scan-part a b s c is w) ∙ read-accepts (w .run) (w .meant) (w .kinds) (length-fits (length (spell (w .run))) m)) in
           (ap (λ (k : TreeRead). k .answer) f, omega (arith, ap (λ (k : TreeRead). k .tree .n) f, w .count))
 
       pub search-unread : length s ≤ 255 → (x .answer ≡ Accepted → ⊥) → l ≡ locatedBy nowhere → LocatedRight s a b l
@@ -122,7 +137,7 @@ module _ (s : List ℕ) (a b : ℕ) (l : Located) where
       search-found le nb fit e n g =
           let y = read-run _ x read e in
           let v = accepted-spell _ (y .0) (y .1) in
-          let w = spells a b s c is le nb fit (y .0) (v .1) (v .0) (omega (arith, y .2)) in
+          let w = spells a b s c is le nb fit (y .0) (v .1) (v .3) (v .0) (omega (arith, y .2)) in
           located-some s a b l w (c .at - c .width) (c .at) (omega (arith, scan-at a b s c is w, scan-width a b s c is w)) (scan-at a b s c is w) g
 
 -- The whole call.

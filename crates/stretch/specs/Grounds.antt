@@ -1,4 +1,4 @@
--- What the check of a run of nodes must say (document 01, grounds 1 to 4 and 15).
+-- What the check of a run of nodes must say (document 01, grounds 1 to 4 and 15; document 02, b, ground 24).
 use Prim.Native.Nat.{ℕ}
 use mathlib.Core.List.{List}
 use Rattle.answer.specs.Answer.{Said}

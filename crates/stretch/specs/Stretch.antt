@@ -87,7 +87,7 @@ located (textRefused g k) a b = record { answer = textAnswer (textRefused g k); 
 abbrev pub locatedIn : List ℕ → ℕ → ℕ → Located
 locatedIn s a b = located (reading s) a b
 
--- What the check answers: grounds 1 to 4 of the text, then 15.
+-- What the check answers: grounds 1 to 4 and 24 of the text, then 15.
 unfoldable pub checkOf : List ℕ → ℕ → ℕ → Answer
 checkOf s a b = locatedIn s a b .answer
 

@@ -3,8 +3,9 @@ use answer::Answer;
 use answer::Ground;
 use answer::Place;
 use answer::refused;
-use tree::character::Role;
-use tree::character::role_of;
+use character::Role;
+use character::meaning_of;
+use character::role_of;
 use tree::read;
 ghost use mathlib.Core.Path.{_≡_};
 ghost use Prim.Native.Nat.{_≤_, _<_};
@@ -27,8 +28,8 @@ pub struct Located {
 }
 
 // How many nodes a byte ends.
-fn ends_of(meaning: Role) -> usize
-    ensures { λ r. ⌜ r ≡ endsOf meaning ⌝ }
+fn ends_of(role: Role) -> usize
+    ensures { λ r. ⌜ r ≡ endsOf role ⌝ }
 {
     match role {
         Role::Unpaired => 1,
@@ -39,8 +40,8 @@ fn ends_of(meaning: Role) -> usize
 }
 
 // How many bytes the node has that a byte ends.
-fn bytes_of(meaning: Role) -> usize
-    ensures { λ r. ⌜ r ≡ ownBytes meaning ⌝ }
+fn bytes_of(role: Role) -> usize
+    ensures { λ r. ⌜ r ≡ ownBytes role ⌝ }
 {
     match role {
         Role::Unpaired => 1,
@@ -55,8 +56,8 @@ fn count_byte(c: Scan, a: usize, byte: u8) -> Scan
     requires { ⌜ (c .at < 4096) × (c .nodes < 4096) × (c .width < 4096) ⌝ }
     ensures { λ r. ⌜ r ≡ counted a byte c ⌝ }
 {
-    let role = role_of(byte);
-    let nodes = c.nodes + ends_of(meaning);
+    let role = role_of(meaning_of(byte));
+    let nodes = c.nodes + ends_of(role);
     if c.nodes < a {
         return Scan {
             at: c.at + 1,
@@ -67,7 +68,7 @@ fn count_byte(c: Scan, a: usize, byte: u8) -> Scan
     Scan {
         at: c.at + 1,
         nodes,
-        width: c.width + bytes_of(meaning),
+        width: c.width + bytes_of(role),
     }
 }
 
