@@ -1,6 +1,6 @@
 // What one character of a text means, and what a reader of structure needs of it.
 ghost use mathlib.Core.Path.{_≡_};
-ghost use Rattle.character.specs.Character.{meaningOf, roleIn, kindIn};
+ghost use Rattle.character.specs.Character.{meaningOf, roleIn};
 
 // The ten outcomes: four openings, four closings, unpaired, refused.
 pub enum Meaning {
@@ -61,23 +61,5 @@ pub fn role_of(meaning: Meaning) -> Role
         Meaning::ClosingCurly => Role::Closing,
         Meaning::Unpaired => Role::Unpaired,
         Meaning::Refused => Role::Refused,
-    }
-}
-
-// The kind of a bracket, by number, and 0 of what is none.
-pub fn kind_of(meaning: Meaning) -> u8
-    ensures { λ r. ⌜ r ≡ kindIn meaning ⌝ }
-{
-    match meaning {
-        Meaning::OpeningAngle => 1,
-        Meaning::ClosingAngle => 1,
-        Meaning::OpeningRound => 2,
-        Meaning::ClosingRound => 2,
-        Meaning::OpeningSquare => 3,
-        Meaning::ClosingSquare => 3,
-        Meaning::OpeningCurly => 4,
-        Meaning::ClosingCurly => 4,
-        Meaning::Unpaired => 0,
-        Meaning::Refused => 0,
     }
 }

@@ -1,6 +1,6 @@
 -- Texts in dot-bracket form: when a text is in it, and that a text written in it is read alike.
 use mathlib.Core.Path.{_≡_, refl, sym, ap, ap₂, subst, _∙_}
-use mathlib.Core.Bool.{Bool, true, false, cond, _&&_, _||_, false≢true}
+use mathlib.Core.Bool.{Bool, true, false, cond, _&&_, _||_, true≢false, false≢true}
 use mathlib.Core.Logic.{_⊎_, inl, inr}
 use Prim.Native.Nat.{ℕ, zero, suc, _+_, _-_, _≤_, _<_}
 use native.Mathlib.Omega.{arith}
@@ -13,6 +13,7 @@ use borrow.Author.Tests.{eqb-true}
 use Rattle.answer.specs.declared.Ground.the-variants.{UnknownByte}
 use Rattle.answer.specs.declared.Answer.the-variants.{Accepted}
 use Rattle.character.specs.Character.{meaningOf, roleOf, kindOf}
+use Rattle.character.proofs.Bytes.{by-byte}
 use Rattle.character.specs.declared.Role.{Role}
 use Rattle.character.specs.declared.Role.the-variants.{Unpaired, Opening, Closing, Refused}
 use Rattle.tree.specs.Run.{Run, spell, size, leftsFrom}
@@ -20,7 +21,7 @@ use Rattle.tree.specs.Run.Run.{end, dot, pair}
 use Rattle.tree.specs.Reading.{Runs, first, onto, runs, orNext, firstRefused, groundAt, stopped, blindReading, passKind, firstOtherKind, Reading, readOf, treeOf}
 use Rattle.tree.specs.Reading.Runs.{last, more}
 use Rattle.tree.specs.Reading.Reading.{textAccepted, textRefused}
-use Rattle.tree.specs.inner.DotBracket.{ReadAsDot, InDotBracket, isDot, allDots, dotByte, dotBracketOf}
+use Rattle.tree.specs.inner.DotBracket.{ReadAsDot, InDotBracket, isDot, allDots, isAmong, dotByte, dotBracketOf}
 use Rattle.tree.specs.declared.Tree.{Tree}
 
 and-assoc : (a b c : Bool) → (a && (b && c)) ≡ ((a && b) && c)
@@ -133,6 +134,21 @@ read-as-dot Opening = refl
 read-as-dot Closing = refl
 read-as-dot Refused = refl
 
+-- The comparisons by which a text is written, and a bracket's kind told, tell what the byte means.
+pub compared-role : (b : ℕ) → cond (isAmong b 46 44 58 95 || (eqb b 45 || eqb b 126)) 46 (cond (isAmong b 60 40 91 123) 40 (cond (isAmong b 62 41 93 125) 41 0)) ≡ dotByte (roleOf b)
+unfolding meaningOf
+compared-role b =
+    by-byte (λ (x : ℕ). cond (isAmong x 46 44 58 95 || (eqb x 45 || eqb x 126)) 46 (cond (isAmong x 60 40 91 123) 40 (cond (isAmong x 62 41 93 125) 41 0)) ≡ dotByte (roleOf x)) b
+    refl refl refl refl refl refl refl refl refl refl refl refl refl refl
+    (λ w. simp (w .0, w .1 .0, w .1 .1 .0, w .1 .1 .1 .0, w .1 .1 .1 .1 .0, w .1 .1 .1 .1 .1 .0, w .1 .1 .1 .1 .1 .1 .0, w .1 .1 .1 .1 .1 .1 .1 .0, w .1 .1 .1 .1 .1 .1 .1 .1 .0, w .1 .1 .1 .1 .1 .1 .1 .1 .1 .0, w .1 .1 .1 .1 .1 .1 .1 .1 .1 .1 .0, w .1 .1 .1 .1 .1 .1 .1 .1 .1 .1 .1 .0, w .1 .1 .1 .1 .1 .1 .1 .1 .1 .1 .1 .1 .0, w .1 .1 .1 .1 .1 .1 .1 .1 .1 .1 .1 .1 .1 .0, meaningOf))
+
+pub compared-kind : (b : ℕ) → cond (eqb b 60 || eqb b 62) 1 (cond (eqb b 40 || eqb b 41) 2 (cond (eqb b 91 || eqb b 93) 3 (cond (eqb b 123 || eqb b 125) 4 0))) ≡ kindOf b
+unfolding meaningOf
+compared-kind b =
+    by-byte (λ (x : ℕ). cond (eqb x 60 || eqb x 62) 1 (cond (eqb x 40 || eqb x 41) 2 (cond (eqb x 91 || eqb x 93) 3 (cond (eqb x 123 || eqb x 125) 4 0))) ≡ kindOf x) b
+    refl refl refl refl refl refl refl refl refl refl refl refl refl refl
+    (λ w. simp (w .0, w .1 .0, w .1 .1 .0, w .1 .1 .1 .0, w .1 .1 .1 .1 .0, w .1 .1 .1 .1 .1 .0, w .1 .1 .1 .1 .1 .1 .0, w .1 .1 .1 .1 .1 .1 .1 .0, w .1 .1 .1 .1 .1 .1 .1 .1 .0, w .1 .1 .1 .1 .1 .1 .1 .1 .1 .0, w .1 .1 .1 .1 .1 .1 .1 .1 .1 .1 .0, w .1 .1 .1 .1 .1 .1 .1 .1 .1 .1 .1 .0, w .1 .1 .1 .1 .1 .1 .1 .1 .1 .1 .1 .1 .0, w .1 .1 .1 .1 .1 .1 .1 .1 .1 .1 .1 .1 .1 .0, meaningOf))
+
 pub form-in : (s : List ℕ) → InDotBracket (dotBracketOf s)
 form-in [] i = nothing-refused
 form-in (c ∷ s) zero = read-as-dot (roleOf c)
@@ -146,10 +162,24 @@ pub form-refused : (s : List ℕ) → firstRefused (dotBracketOf s) ≡ firstRef
 form-refused [] = refl
 form-refused (c ∷ s) = ap₂ orNext (role-kept (roleOf c)) (form-refused s)
 
-form-role : (s : List ℕ) (i : ℕ) → roleOf (getD (dotBracketOf s) i 0) ≡ roleOf (getD s i 0)
+pub form-role : (s : List ℕ) (i : ℕ) → roleOf (getD (dotBracketOf s) i 0) ≡ roleOf (getD s i 0)
 form-role [] i = refl
 form-role (c ∷ s) zero = role-kept (roleOf c)
 form-role (c ∷ s) (suc i) = form-role s i
+
+-- A text whose form is dots and round brackets has no refused byte, and any other has one.
+pub form-dots : (s : List ℕ) → allDots (dotBracketOf s) ≡ true → length s ≤ firstRefused s
+form-dots s h = omega (arith, dots-known (dotBracketOf s) h, form-length s, form-refused s)
+
+pub form-other : (s : List ℕ) → allDots (dotBracketOf s) ≡ false → firstRefused s < length s
+form-other [] h = absurd (true≢false h)
+form-other (c ∷ s) h = go (roleOf c) h (form-other s)
+  where
+    go : (m : Role) → (isDot (dotByte m) && allDots (dotBracketOf s)) ≡ false → (allDots (dotBracketOf s) ≡ false → firstRefused s < length s) → orNext m (firstRefused s) < suc (length s)
+    go Unpaired e rest = omega (arith, rest e)
+    go Opening e rest = omega (arith, rest e)
+    go Closing e rest = omega (arith, rest e)
+    go Refused e rest = omega arith
 
 -- The runs of a text in dot-bracket form are its own with other bytes: as many nodes and bytes, and the same leftmost leaves.
 abbrev inDots : Run → Run

@@ -1,24 +1,25 @@
 -- A text written in dot-bracket form, byte by byte, and what is read of it.
 use mathlib.Core.Path.{_≡_, refl, sym, ap, ap₂, subst, _∙_}
-use mathlib.Core.Bool.{true}
+use mathlib.Core.Bool.{true, false}
 use Prim.Native.Nat.{ℕ, suc, _+_, _-_, _≤_, _<_}
 use native.Mathlib.Omega.{arith}
+use native.Mathlib.Nat.{sub-zero}
 use native.Mathlib.Numerals.{add-one}
 use mathlib.Core.List.{List, [], _∷_, _++_, map-append}
-use lib.ListN.{length, getD, take, set, length-set}
+use lib.ListN.{length, getD, take, drop, set, length-set}
 use lib.Seq.{take-all, take-suc, take-suc-set}
 use borrow.Author.Tests.{lt-ltb, le-ltb}
 use Rattle.answer.specs.declared.Ground.the-variants.{UnknownByte, ClosesOtherKind}
 use Rattle.answer.specs.declared.Answer.the-variants.{Accepted}
 use Rattle.answer.proofs.Denied.{denies}
 use Rattle.character.specs.Character.{roleOf}
-use Rattle.tree.specs.Run.{Run}
+use Rattle.character.specs.declared.Role.{Role}
 use Rattle.tree.specs.Reading.{Reading, readOf, firstRefused, blindReading, firstOtherKind, withKinds}
 use Rattle.tree.specs.Reading.Reading.{textAccepted, textRefused}
 use Rattle.tree.specs.inner.DotBracket.{InDotBracket, allDots, dotByte, dotBracketOf}
-use Rattle.tree.specs.inner.Building.{Known}
+use Rattle.tree.specs.inner.Building.{Known, Formed}
 use Rattle.tree.specs.declared.TreeRead.{TreeRead}
-use Rattle.tree.proofs.DotBrackets.{dots-form, dots-known, dots-kinds, form-in, form-length, form-refused, form-blind}
+use Rattle.tree.proofs.DotBrackets.{dots-form, dots-known, dots-kinds, form-in, form-length, form-role, form-other, form-blind}
 use Rattle.tree.proofs.Texts.{blind-unknown}
 
 -- The bytes up to i are written.
@@ -59,24 +60,35 @@ module _ (s : List ℕ) (dots : allDots s ≡ true) where
       go (textAccepted r) = rw (dots-kinds s dots, le-ltb (length s) (length s) (omega arith))
       go (textRefused g k) = refl
 
--- What is read of a text in its dot-bracket form, in each case of the code.
-module _ (s w : List ℕ) (short : length s ≤ 255) (is : w ≡ dotBracketOf s) where
-  pub written-form : InDotBracket w
-  written-form = subst InDotBracket (sym is) (form-in s)
+-- What the form tells of the bytes of its text.
+module _ {s form : List ℕ} (h : Formed s form) where
+  pub formed-length : length form ≡ length s
+  formed-length = ap length (h .is) ∙ form-length s
 
-  module _ (u : ℕ) (unknown : u ≡ firstRefused w) where
-    is-first : u ≡ firstRefused s
-    is-first = unknown ∙ ap firstRefused is ∙ form-refused s
+  pub formed-dot : InDotBracket form
+  formed-dot = subst InDotBracket (sym (h .is)) (form-in s)
 
-    pub written-refused : u < length s → readOf (textRefused UnknownByte u) ≡ readOf (withKinds s (blindReading s))
-    written-refused h = ap (λ (k : ℕ). readOf (textRefused UnknownByte k)) is-first ∙ sym (ap (λ (x : Reading). readOf (withKinds s x)) (blind-unknown s (omega (arith, is-first))))
+  pub formed-role : (i : ℕ) {m : Role} → m ≡ roleOf (getD form i 0) → m ≡ roleOf (getD s i 0)
+  formed-role i e = e ∙ ap (λ (l : List ℕ). roleOf (getD l i 0)) (h .is) ∙ form-role s i
 
-    pub written-known : length s ≤ u → Known w
-    written-known h =
-        let same : length w ≡ length s = ap length is ∙ form-length s in
-        record { form = written-form; short = omega arith; known = omega (arith, unknown) }
+-- What is read of a text in its dot-bracket form, in each case of the code. The form is a part of an array.
+module _ (s array : List ℕ) (short : length s ≤ 255) (whole : take (length s) array ≡ dotBracketOf s) where
+  abbrev Form : List ℕ
+  Form = take (length s - 0) (drop 0 array)
 
-  module _ (x : TreeRead) (read : x ≡ readOf (blindReading w)) where
+  is : Form ≡ dotBracketOf s
+  is = ap (λ (k : ℕ). take k array) (sub-zero (length s)) ∙ whole
+
+  pub formed : Formed s Form
+  formed = record { short = short; is = is }
+
+  pub written-refused : allDots Form ≡ false → (u : ℕ) → u ≡ firstRefused s → readOf (textRefused UnknownByte u) ≡ readOf (withKinds s (blindReading s))
+  written-refused h u e = ap (λ (k : ℕ). readOf (textRefused UnknownByte k)) e ∙ sym (ap (λ (x : Reading). readOf (withKinds s x)) (blind-unknown s (form-other s (sym (ap allDots is) ∙ h))))
+
+  pub written-known : allDots Form ≡ true → Known Form
+  written-known h = record { form = dots-form Form h; short = omega (arith, ap length is, form-length s); known = omega (arith, dots-known Form h) }
+
+  module _ (x : TreeRead) (read : x ≡ readOf (blindReading Form)) where
     is-blind : x ≡ readOf (blindReading s)
     is-blind = read ∙ ap (λ (l : List ℕ). readOf (blindReading l)) is ∙ form-blind s
 

@@ -1,14 +1,11 @@
 // Texts in dot-bracket form, dots and round brackets alone: the form in which every text is read.
 use character::Role;
-use character::meaning_of;
-use character::role_of;
 ghost use mathlib.Core.Path.{_≡_};
-ghost use mathlib.Core.Bool.{_&&_, _||_};
+ghost use mathlib.Core.Bool.{cond, _&&_, _||_};
 ghost use Prim.Native.Nat.{_≤_};
 ghost use lib.ListN.{length, take};
 ghost use Rattle.character.specs.Character.{roleOf};
-ghost use Rattle.tree.specs.Reading.{firstRefused};
-ghost use Rattle.tree.specs.inner.DotBracket.{ReadAsDot, InDotBracket, isDot, allDots, dotByte, dotBracketOf};
+ghost use Rattle.tree.specs.inner.DotBracket.{ReadAsDot, isDot, allDots, isAmong, dotByte, dotBracketOf};
 
 // The role of a byte of such a text. Few bytes are told apart, so that each costs little where it is read.
 pub fn dot_role(byte: u8) -> Role
@@ -29,7 +26,7 @@ fn both(a: bool, b: bool) -> bool
     if a { b } else { false }
 }
 
-fn either(a: bool, b: bool) -> bool
+pub fn either(a: bool, b: bool) -> bool
     ensures { λ r. ⌜ r ≡ (a || b) ⌝ }
 {
     if a { true } else { b }
@@ -55,36 +52,28 @@ pub fn all_dots(text: &[u8]) -> bool
     all
 }
 
-// Where the first refused byte stands, or the text's length. Only a text that has one is searched.
-pub fn first_refused(text: &[u8]) -> usize
-    requires { ⌜ InDotBracket (now text) ⌝ }
-    ensures { λ r. ⌜ r ≡ firstRefused (now (text .entry)) ⌝ }
+pub fn pick(a: bool, x: u8, y: u8) -> u8
+    ensures { λ r. ⌜ r ≡ cond a x y ⌝ }
 {
-    if all_dots(text) {
-        return text.len();
-    }
-    let mut i = 0;
-    while i < text.len() {
-        let role = dot_role(text[i]);
-        match role {
-            Role::Refused => return i,
-            _ => {}
-        }
-        i += 1;
-    }
-    i
+    if a { x } else { y }
 }
 
-// The byte that plays a role in such a text: a refused one stays refused.
-fn dot_byte(role: Role) -> u8
-    ensures { λ r. ⌜ r ≡ dotByte role ⌝ }
+// Whether a byte is one of four.
+fn among(byte: u8, a: u8, b: u8, c: u8, d: u8) -> bool
+    ensures { λ r. ⌜ r ≡ isAmong byte a b c d ⌝ }
 {
-    match role {
-        Role::Unpaired => 46,
-        Role::Opening => 40,
-        Role::Closing => 41,
-        Role::Refused => 0,
-    }
+    either(either(byte == a, byte == b), either(byte == c, byte == d))
+}
+
+// The byte that plays the role of a byte in dot-bracket form: a refused one stays refused. It is found by comparing alone, so that many bytes are
+// written in one step.
+fn dot_byte(byte: u8) -> u8
+    ensures { λ r. ⌜ r ≡ dotByte (roleOf byte) ⌝ }
+{
+    let unpaired = either(among(byte, 46, 44, 58, 95), either(byte == 45, byte == 126));
+    let opening = among(byte, 60, 40, 91, 123);
+    let closing = among(byte, 62, 41, 93, 125);
+    pick(unpaired, 46, pick(opening, 40, pick(closing, 41, 0)))
 }
 
 // A text written in dot-bracket form, byte by byte.
@@ -95,7 +84,7 @@ pub fn dot_bracket(text: &[u8]) -> [u8; 256]
     let mut form = [0u8; 256];
     let mut i = 0;
     while i < text.len() {
-        form[i] = dot_byte(role_of(meaning_of(text[i])));
+        form[i] = dot_byte(text[i]);
         i += 1;
     }
     form

@@ -1,14 +1,26 @@
 // Ground 24: the kinds of a text's brackets.
+use super::dot_bracket::dot_role;
+use super::dot_bracket::either;
+use super::dot_bracket::pick;
 use character::Role;
-use character::kind_of;
-use character::meaning_of;
-use character::role_of;
 ghost use mathlib.Core.Path.{_≡_};
 ghost use mathlib.Core.List.{[]};
 ghost use Prim.Native.Nat.{_-_, _≤_};
 ghost use lib.ListN.{length};
+ghost use Rattle.character.specs.Character.{kindOf};
 ghost use Rattle.tree.specs.Reading.{lastIs, firstOtherKind};
-ghost use Rattle.tree.specs.inner.Building.{opened};
+ghost use Rattle.tree.specs.inner.Building.{opened, Formed};
+
+// The kind of a bracket, by number, and 0 of what is none, found by comparing alone.
+fn kind_of(byte: u8) -> u8
+    ensures { λ r. ⌜ r ≡ kindOf byte ⌝ }
+{
+    let angle = either(byte == 60, byte == 62);
+    let round = either(byte == 40, byte == 41);
+    let square = either(byte == 91, byte == 93);
+    let curly = either(byte == 123, byte == 125);
+    pick(angle, 1, pick(round, 2, pick(square, 3, pick(curly, 4, 0))))
+}
 
 // Whether the last of the brackets that are open is of a kind. Where none is, there is no partner of another kind.
 fn last_is(kinds: &[u8; 256], depth: usize, kind: u8) -> bool
@@ -27,25 +39,24 @@ fn less(depth: usize) -> usize
     if depth == 0 { 0 } else { depth - 1 }
 }
 
-// Where the first closing bracket stands whose partner is of another kind, or the text's length. The kinds of the brackets that are open are kept,
-// that of the last one last.
-pub fn first_other_kind(text: &[u8]) -> usize
-    requires { ⌜ length (now text) ≤ 255 ⌝ }
+// Where the first closing bracket stands whose partner is of another kind, or the text's length. The form tells the brackets, and the text their
+// kinds; those of the brackets that are open are kept, that of the last one last.
+pub fn first_other_kind(text: &[u8], form: &[u8]) -> usize
+    requires { ⌜ Formed (now text) (now form) ⌝ }
     ensures { λ r. ⌜ r ≡ firstOtherKind (now (text .entry)) [] ⌝ }
 {
     let mut kinds = [0u8; 256];
     let mut depth = 0;
     let mut i = 0;
     while i < text.len() {
-        let meaning = meaning_of(text[i]);
-        let role = role_of(meaning);
+        let role = dot_role(form[i]);
         match role {
             Role::Opening => {
-                kinds[depth] = kind_of(meaning);
+                kinds[depth] = kind_of(text[i]);
                 depth += 1;
             }
             Role::Closing => {
-                if !last_is(&kinds, depth, kind_of(meaning)) {
+                if !last_is(&kinds, depth, kind_of(text[i])) {
                     return i;
                 }
                 depth = less(depth);

@@ -2,6 +2,7 @@
 mod dot_bracket;
 mod kinds;
 mod run;
+mod unknown;
 
 use answer::Answer;
 use answer::Ground;
@@ -10,9 +11,9 @@ use character::Role;
 use dot_bracket::all_dots;
 use dot_bracket::dot_bracket;
 use dot_bracket::dot_role;
-use dot_bracket::first_refused;
 use kinds::first_other_kind;
 use run::read_run;
+use unknown::first_refused;
 ghost use mathlib.Core.Path.{_≡_};
 ghost use Prim.Native.Nat.{_≤_};
 ghost use lib.ListN.{length};
@@ -84,9 +85,8 @@ fn read_written(text: &[u8]) -> TreeRead
     let len = text.len();
     let form = dot_bracket(text);
     let written = &form[0..len];
-    let unknown = first_refused(written);
-    if unknown < len {
-        return refused(Ground::UnknownByte, unknown);
+    if !all_dots(written) {
+        return refused(Ground::UnknownByte, first_refused(text));
     }
     let read = read_known(written);
     let answer = read.answer;
@@ -94,7 +94,7 @@ fn read_written(text: &[u8]) -> TreeRead
         Answer::Accepted => {}
         _ => return read,
     }
-    let other = first_other_kind(text);
+    let other = first_other_kind(text, written);
     if other < len {
         return refused(Ground::ClosesOtherKind, other);
     }

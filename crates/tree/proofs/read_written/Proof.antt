@@ -1,10 +1,9 @@
 -- `tree::read_written` meets its contract: one law for each way out.
-use mathlib.Core.Path.{ap, _∙_}
-use native.Mathlib.Nat.{sub-zero}
-use lib.ListN.{length, take}
-use Rattle.tree.proofs.Written.{written-form, written-refused, written-known, written-stops, written-other, written-read}
+use mathlib.Core.Path.{sym, _∙_}
 use borrow.Author.Needs.{needs}
+use borrow.Author.Tests.{not-true, not-false}
 use Rattle.answer.proofs.Denied.{denies}
+use Rattle.tree.proofs.Written.{formed, written-refused, written-known, written-stops, written-other, written-read}
 use Rattle.tree.proofs.read_written.Statement.{statement}
 use Rattle.tree.proofs.read_written.Tie as tie
 
@@ -20,28 +19,27 @@ part-written-start c = search needs
 part-written-end : tie.Need-part-written-end
 part-written-end c = search needs
 
+all-dots-requires : tie.Need-all-dots-requires
+all-dots-requires c κs = search needs
+
 first-refused-requires : tie.Need-first-refused-requires
-first-refused-requires c κs =
-    let form = c .before .before in
-    let start = form .before .before in
-    written-form (start .args .text .now) _ (start .pre) (ap (λ k. take k (form .dot-bracket .result)) (sub-zero (length (start .args .text .now))) ∙ form .dot-bracket .ensures)
+first-refused-requires c κs = search needs
 
 refused-requires : tie.Need-refused-requires
 refused-requires c κs = search needs
 
 returns : tie.Need-returns
 returns c =
-    let form = c .before .before .before .before .before in
+    let form = c .before .before .before .before .before .before in
     let start = form .before .before in
-    let is = ap (λ k. take k (form .dot-bracket .result)) (sub-zero (length (start .args .text .now))) ∙ form .dot-bracket .ensures in
-    c .refused .ensures ∙ written-refused (start .args .text .now) _ (start .pre) is _ (c .before .before .first-refused .ensures) (c .before .if1 .taken)
+    c .refused .ensures
+    ∙ written-refused (start .args .text .now) _ (start .pre) (form .dot-bracket .ensures) (sym (c .before .before .before .all-dots .ensures) ∙ not-true _ (c .before .before .if1 .taken)) _ (c .before .first-refused .ensures)
 
 read-known-requires : tie.Need-read-known-requires
 read-known-requires c κs =
     let form = c .before .before .before .before in
     let start = form .before .before in
-    let is = ap (λ k. take k (form .dot-bracket .result)) (sub-zero (length (start .args .text .now))) ∙ form .dot-bracket .ensures in
-    written-known (start .args .text .now) _ (start .pre) is _ (c .before .first-refused .ensures) (c .if1 .left)
+    written-known (start .args .text .now) _ (start .pre) (form .dot-bracket .ensures) (sym (c .before .all-dots .ensures) ∙ not-false _ (c .if1 .left))
 
 enum-told : tie.Need-enum-told
 enum-told c = search needs
@@ -53,11 +51,13 @@ returns-2 : tie.Need-returns-2
 returns-2 c =
     let form = c .before .before .before .before .before .before .before in
     let start = form .before .before in
-    let is = ap (λ k. take k (form .dot-bracket .result)) (sub-zero (length (start .args .text .now))) ∙ form .dot-bracket .ensures in
-    written-stops (start .args .text .now) _ (start .pre) is _ (c .before .before .read-known .ensures) (denies (c .enum-told2 .given .1))
+    written-stops (start .args .text .now) _ (start .pre) (form .dot-bracket .ensures) _ (c .before .before .read-known .ensures) (denies (c .enum-told2 .given .1))
 
 first-other-kind-requires : tie.Need-first-other-kind-requires
-first-other-kind-requires c κs = search needs
+first-other-kind-requires c κs =
+    let form = c .before .before .before .before .before .before .before in
+    let start = form .before .before in
+    formed (start .args .text .now) _ (start .pre) (form .dot-bracket .ensures)
 
 refused-requires-2 : tie.Need-refused-requires-2
 refused-requires-2 c κs = search needs
@@ -66,16 +66,14 @@ returns-3 : tie.Need-returns-3
 returns-3 c =
     let form = c .before .before .before .before .before .before .before .before .before .before in
     let start = form .before .before in
-    let is = ap (λ k. take k (form .dot-bracket .result)) (sub-zero (length (start .args .text .now))) ∙ form .dot-bracket .ensures in
     c .refused2 .ensures
-    ∙ written-other (start .args .text .now) _ (start .pre) is _ (c .before .before .before .before .before .read-known .ensures) (c .before .before .before .enum-told .given .1) _ (c .before .before .first-other-kind .ensures) (c .before .if2 .taken)
+    ∙ written-other (start .args .text .now) _ (start .pre) (form .dot-bracket .ensures) _ (c .before .before .before .before .before .read-known .ensures) (c .before .before .before .enum-told .given .1) _ (c .before .before .first-other-kind .ensures) (c .before .if2 .taken)
 
 returns-4 : tie.Need-returns-4
 returns-4 c =
     let form = c .before .before .before .before .before .before .before .before .before in
     let start = form .before .before in
-    let is = ap (λ k. take k (form .dot-bracket .result)) (sub-zero (length (start .args .text .now))) ∙ form .dot-bracket .ensures in
-    written-read (start .args .text .now) _ (start .pre) is _ (c .before .before .before .before .read-known .ensures) (c .before .before .enum-told .given .1) _ (c .before .first-other-kind .ensures) (c .if2 .left)
+    written-read (start .args .text .now) _ (start .pre) (form .dot-bracket .ensures) _ (c .before .before .before .before .read-known .ensures) (c .before .before .enum-told .given .1) _ (c .before .first-other-kind .ensures) (c .if2 .left)
 
 pub read-written-spec : {M : Type 1} → statement M
 read-written-spec =
@@ -85,6 +83,7 @@ read-written-spec =
     sub-written
     part-written-start
     part-written-end
+    all-dots-requires
     first-refused-requires
     refused-requires
     returns

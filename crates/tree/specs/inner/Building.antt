@@ -12,7 +12,7 @@ use Rattle.character.specs.Character.{roleOf}
 use Rattle.tree.specs.Reading.{first, runs, firstRefused}
 use Rattle.character.specs.declared.Role.{Role}
 use Rattle.character.specs.declared.Role.the-variants.{Unpaired, Opening, Closing, Refused}
-use Rattle.tree.specs.inner.DotBracket.{InDotBracket}
+use Rattle.tree.specs.inner.DotBracket.{InDotBracket, dotBracketOf}
 use Rattle.tree.specs.declared.run.ReadTo.{ReadTo}
 
 -- The run that is read from a byte of a text on.
@@ -101,6 +101,11 @@ pub record Known (s : List ℕ) : Type 0 where
   pub form : InDotBracket s
   pub short : length s ≤ 255
   pub known : length s ≤ firstRefused s
+
+-- A text of at most 255 bytes, and its dot-bracket form.
+pub record Formed (s form : List ℕ) : Type 0 where
+  pub short : length s ≤ 255
+  pub is : form ≡ dotBracketOf s
 
 -- The kinds of so many open brackets, that of the last one first, out of an array that has it last.
 abbrev pub opened : List ℕ → ℕ → List ℕ

@@ -28,6 +28,10 @@ abbrev pub allDots : List ℕ → Bool
 allDots [] = true
 allDots (c ∷ s) = isDot c && allDots s
 
+-- Whether a byte is one of four.
+abbrev pub isAmong : ℕ → ℕ → ℕ → ℕ → ℕ → Bool
+isAmong x a b c d = (eqb x a || eqb x b) || (eqb x c || eqb x d)
+
 -- The byte that plays a role in dot-bracket form, and the text in it. Byte 0 is refused.
 abbrev pub dotByte : Role → ℕ
 dotByte Unpaired = 46

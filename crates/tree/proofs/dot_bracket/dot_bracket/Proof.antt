@@ -1,11 +1,8 @@
 -- `tree::dot_bracket::dot_bracket` meets its contract: the bytes up to i are written.
-use mathlib.Core.Path.{ap, _∙_}
 use Prim.Native.Nat.{_-_}
 use native.Mathlib.Omega.{arith}
-use borrow.Author.Needs.{needs}
 use lib.ListN.{length}
-use Rattle.character.specs.Character.{roleIn}
-use Rattle.tree.specs.inner.DotBracket.{dotByte}
+use borrow.Author.Needs.{needs}
 use Rattle.tree.proofs.Written.{WrittenTo, written-start, written-turn, written-end}
 use Rattle.tree.proofs.dot_bracket.dot_bracket.Statement.{statement}
 use Rattle.tree.proofs.dot_bracket.dot_bracket.Tie as tie
@@ -19,32 +16,23 @@ abbrev μ-loop : tie.MeasureT-loop
 loop-holds : tie.Need-loop-holds Inv-loop μ-loop
 loop-holds c = written-start _ _ (search needs)
 
-shared-slice-read-meaning-of : tie.Need-shared-slice-read-meaning-of Inv-loop μ-loop
-shared-slice-read-meaning-of c = c .before .loop-test .taken
-
-meaning-of-requires : tie.Need-meaning-of-requires Inv-loop μ-loop
-meaning-of-requires c κs = tt
-
-role-of-requires : tie.Need-role-of-requires Inv-loop μ-loop
-role-of-requires c κs = tt
+shared-slice-read-dot-byte : tie.Need-shared-slice-read-dot-byte Inv-loop μ-loop
+shared-slice-read-dot-byte c = c .before .loop-test .taken
 
 dot-byte-requires : tie.Need-dot-byte-requires Inv-loop μ-loop
 dot-byte-requires c κs = tt
 
 array-write-form : tie.Need-array-write-form Inv-loop μ-loop
-array-write-form c = omega (arith, c .before .before .before .before .loop-test .taken, c .before .before .before .before .before .before .before .pre)
+array-write-form c = omega (arith, c .before .before .loop-test .taken, c .before .before .before .before .before .pre)
 
 add-i : tie.Need-add-i Inv-loop μ-loop
-add-i c = omega (arith, c .before .before .before .before .loop-test .taken, c .before .before .before .before .before .before .before .pre)
+add-i c = omega (arith, c .before .before .loop-test .taken, c .before .before .before .before .before .pre)
 
 loop-less : tie.Need-loop-less Inv-loop μ-loop
-loop-less c = omega (arith, c .before .before .before .before .loop-test .taken)
+loop-less c = omega (arith, c .before .before .loop-test .taken)
 
 loop-again : tie.Need-loop-again Inv-loop μ-loop
-loop-again c =
-    let test = c .before .before .before .before in
-    written-turn _ _ _ (test .before .loop .inv) (test .before .before .before .pre) (test .loop-test .taken)
-    (c .dot-byte .ensures ∙ ap dotByte (c .before .role-of .ensures ∙ ap roleIn (c .before .before .meaning-of .ensures)))
+loop-again c = written-turn _ _ _ (c .before .before .before .loop .inv) (c .before .before .before .before .before .pre) (c .before .before .loop-test .taken) (c .dot-byte .ensures)
 
 returns : tie.Need-returns Inv-loop μ-loop
 returns c = written-end _ _ _ (c .before .loop .inv) (c .loop-test .left)
@@ -56,9 +44,7 @@ dot-bracket-spec =
     Inv-loop
     μ-loop
     loop-holds
-    shared-slice-read-meaning-of
-    meaning-of-requires
-    role-of-requires
+    shared-slice-read-dot-byte
     dot-byte-requires
     array-write-form
     add-i
