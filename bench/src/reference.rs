@@ -169,37 +169,94 @@ fn cut_line(bytes: &[u8]) -> (&[u8], &[u8]) {
     }
 }
 
+/// The four kinds of brackets.
+#[derive(Clone, Copy, PartialEq, Eq)]
+enum Kind {
+    Angle,
+    Round,
+    Square,
+    Curly,
+}
+
+/// What one byte of a text means (document 02, b).
+#[derive(Clone, Copy, PartialEq, Eq)]
+enum Meaning {
+    Opening(Kind),
+    Closing(Kind),
+    Unpaired,
+    Refused,
+}
+
+const fn meaning(byte: u8) -> Meaning {
+    match byte {
+        b'<' => Meaning::Opening(Kind::Angle),
+        b'(' => Meaning::Opening(Kind::Round),
+        b'[' => Meaning::Opening(Kind::Square),
+        b'{' => Meaning::Opening(Kind::Curly),
+        b'>' => Meaning::Closing(Kind::Angle),
+        b')' => Meaning::Closing(Kind::Round),
+        b']' => Meaning::Closing(Kind::Square),
+        b'}' => Meaning::Closing(Kind::Curly),
+        b'.' | b',' | b':' | b'_' | b'-' | b'~' => Meaning::Unpaired,
+        _ => Meaning::Refused,
+    }
+}
+
+/// The meanings of all bytes, since looking one up takes less time than telling it.
+static MEANINGS: [Meaning; 256] = {
+    let mut meanings = [Meaning::Refused; 256];
+    let mut byte = 0;
+    while byte < 256 {
+        meanings[byte] = meaning(byte as u8);
+        byte += 1;
+    }
+    meanings
+};
+
 /// A text as a tree, or the ground and the byte position.
 pub fn read_tree(text: &[u8]) -> Result<Tree, (u8, usize)> {
     if text.len() > TEXT_LIMIT {
         return Err((1, 0));
     }
-    if let Some(at) = text.iter().position(|byte| !b".()".contains(byte)) {
-        return Err((2, at));
-    }
-    // For each open bracket its byte position and the first node inside.
-    let mut open = [(0, 0); TEXT_LIMIT];
+    // For each open bracket its byte position, the first node inside and its kind.
+    let mut open = [(0, 0, Kind::Round); TEXT_LIMIT];
     let mut depth = 0;
+    // Grounds 3 and 4 come before 24, so the first unlike closing bracket waits for the end.
+    let mut unlike = None;
     let mut tree = Tree::new();
     for (at, &byte) in text.iter().enumerate() {
-        match byte {
-            b'.' => tree.close(tree.count),
-            b'(' => {
-                open[depth] = (at, tree.count);
-                depth += 1;
+        let meaning = MEANINGS[byte as usize];
+        // One test after another: a jump by the meaning is foretold badly where texts vary.
+        if meaning == Meaning::Unpaired {
+            tree.close(tree.count);
+        } else if let Meaning::Opening(kind) = meaning {
+            open[depth] = (at as u8, tree.count as u8, kind);
+            depth += 1;
+        } else if let (Meaning::Closing(kind), true) = (meaning, depth > 0) {
+            depth -= 1;
+            let (_, first, partner) = open[depth];
+            if kind != partner {
+                unlike = unlike.or(Some(at));
             }
-            _ if depth == 0 => return Err((3, at)),
-            _ => {
-                depth -= 1;
-                tree.close(open[depth].1);
-            }
+            tree.close(first as usize);
+        } else {
+            // A refused byte further on comes before a closing bracket that closes nothing.
+            return Err(refused_byte(text).map_or((3, at), |at| (2, at)));
         }
     }
     if depth > 0 {
-        return Err((4, open[0].0));
+        return Err((4, open[0].0 as usize));
     }
     tree.close(0);
-    Ok(tree)
+    match unlike {
+        None => Ok(tree),
+        Some(at) => Err((24, at)),
+    }
+}
+
+fn refused_byte(text: &[u8]) -> Option<usize> {
+    text.iter()
+        .position(|&byte| MEANINGS[byte as usize] == Meaning::Refused)
 }
 
 fn nowhere(ground: u8) -> Refusal {
