@@ -1,9 +1,9 @@
 //! Inputs for the timing, in families that grow: by seeds, by pairs, by brackets.
 
-use crate::inputs::{
-    draft_on, join, must_read, plain_deck, rising, some_score, structure, Draft, Random,
-};
+use crate::inputs::{draft_on, join, must_read, plain_deck, rising, some_score, Draft};
+use crate::random::Random;
 use crate::reference::Pair;
+use crate::texts::{comb_of, nest_of, structure};
 
 /// Inputs of one kind at several sizes.
 pub struct Family {
@@ -122,14 +122,6 @@ fn bare_nest(random: &mut Random, brackets: usize) -> Vec<u8> {
 /// 255 dots and 64 seeds, most of them of 15 dots and the root.
 fn climbed(_: &mut Random, _: usize) -> Vec<u8> {
     include_bytes!("../slow/climbed.input").to_vec()
-}
-
-fn nest_of(brackets: usize) -> Vec<u8> {
-    [b"(".repeat(brackets), b".".to_vec(), b")".repeat(brackets)].concat()
-}
-
-fn comb_of(brackets: usize) -> Vec<u8> {
-    [b"(.".repeat(brackets), b")".repeat(brackets)].concat()
 }
 
 fn alike(nodes: impl IntoIterator<Item = u8>) -> Vec<Pair> {

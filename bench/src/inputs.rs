@@ -1,53 +1,8 @@
 //! Inputs from a fixed start: valid ones, and ones that are damaged in every way document 01 names.
 
+use crate::random::Random;
 use crate::reference::{read_tree, Pair, Tree};
-
-/// Evenly spread numbers, the same ones for the same start.
-pub struct Random(u64);
-
-impl Random {
-    pub fn new(start: u64) -> Random {
-        Random(start)
-    }
-
-    fn next(&mut self) -> u64 {
-        self.0 = self.0.wrapping_add(0x9E37_79B9_7F4A_7C15);
-        let mut mixed = self.0;
-        mixed = (mixed ^ mixed >> 30).wrapping_mul(0xBF58_476D_1CE4_E5B9);
-        mixed = (mixed ^ mixed >> 27).wrapping_mul(0x94D0_49BB_1331_11EB);
-        mixed ^ mixed >> 31
-    }
-
-    fn below(&mut self, limit: usize) -> usize {
-        (self.next() % limit as u64) as usize
-    }
-
-    fn between(&mut self, low: i64, high: i64) -> i64 {
-        low + (self.next() % (high - low + 1) as u64) as i64
-    }
-
-    fn size(&mut self, low: usize, high: usize) -> usize {
-        low + self.below(high - low + 1)
-    }
-
-    fn chance(&mut self, percent: usize) -> bool {
-        self.below(100) < percent
-    }
-
-    fn byte(&mut self) -> u8 {
-        self.next() as u8
-    }
-
-    fn pick<T: Copy>(&mut self, items: &[T]) -> T {
-        items[self.below(items.len())]
-    }
-
-    pub fn shuffle<T>(&mut self, items: &mut [T]) {
-        for at in (1..items.len()).rev() {
-            items.swap(at, self.below(at + 1));
-        }
-    }
-}
+use crate::texts::{damage_text, some_texts};
 
 /// What an input is made from: two texts, and seeds as scores with pairs.
 #[derive(Clone)]
@@ -103,78 +58,6 @@ fn with_bad_deck(
 fn with_bad_texts(random: &mut Random, mut draft: Draft) -> Vec<u8> {
     damage_texts(random, &mut draft);
     lay_out(random, &draft)
-}
-
-// ---- texts ----
-
-/// A structure of just this length; `open` and `close` are chances in a hundred.
-pub fn structure(random: &mut Random, length: usize, open: usize, close: usize) -> Vec<u8> {
-    let mut text = Vec::with_capacity(length);
-    let mut depth = 0;
-    while text.len() < length {
-        let rest = length - text.len();
-        if rest == depth || depth > 0 && random.chance(close) {
-            text.push(b')');
-            depth -= 1;
-        } else if rest >= depth + 2 && random.chance(open) {
-            text.push(b'(');
-            depth += 1;
-        } else {
-            text.push(b'.');
-        }
-    }
-    text
-}
-
-fn some_length(random: &mut Random) -> usize {
-    match random.below(10) {
-        0..=3 => random.size(0, 14),
-        4..=6 => random.size(10, 70),
-        7..=8 => random.size(60, 255),
-        _ => 255,
-    }
-}
-
-fn some_structure(random: &mut Random, length: usize) -> Vec<u8> {
-    // Flat, mixed, many empty pairs, deep, one nest, only dots.
-    let (open, close) = random.pick(&[
-        (10, 40),
-        (35, 25),
-        (50, 50),
-        (70, 8),
-        (97, 0),
-        (0, 0),
-        (40, 12),
-    ]);
-    structure(random, length, open, close)
-}
-
-/// A text that is nearly the given one.
-fn near_structure(random: &mut Random, text: &[u8]) -> Vec<u8> {
-    let mut near = text.to_vec();
-    for _ in 0..random.size(1, 4) {
-        let at = random.below(near.len() + 1);
-        if near.len() < 255 && random.chance(60) {
-            near.insert(at, b'.');
-        } else if at < near.len() && near[at] == b'.' {
-            near.remove(at);
-        }
-    }
-    near
-}
-
-fn some_texts(random: &mut Random) -> (Vec<u8>, Vec<u8>) {
-    let length = some_length(random);
-    let q = some_structure(random, length);
-    let t = match random.below(10) {
-        0..=4 => q.clone(),
-        5..=6 => near_structure(random, &q),
-        _ => {
-            let length = some_length(random);
-            some_structure(random, length)
-        }
-    };
-    (q, t)
 }
 
 // ---- valid seeds ----
@@ -637,7 +520,7 @@ fn damage_layout(random: &mut Random, deck: &mut Vec<u8>) {
 }
 
 /// A deck of one-pair seeds, the last one with all records left; its length fits its counts.
-fn full_deck(seeds: usize, pairs: usize) -> Vec<u8> {
+pub fn full_deck(seeds: usize, pairs: usize) -> Vec<u8> {
     let mut list = vec![(1, vec![Pair { q: 0, t: 0 }]); seeds];
     list[seeds - 1].1 = vec![Pair { q: 0, t: 0 }; pairs + 1 - seeds];
     plain_deck(&list)
@@ -651,29 +534,6 @@ fn damage_texts(random: &mut Random, draft: &mut Draft) {
     }
     if random.chance(60) {
         damage_text(random, &mut draft.t);
-    }
-}
-
-fn damage_text(random: &mut Random, text: &mut Vec<u8>) {
-    // An empty text has no byte to spoil.
-    if text.is_empty() {
-        text.push(b'.');
-    }
-    let at = random.below(text.len());
-    match random.below(9) {
-        // A structure all the same, but mostly not the seeds'.
-        0 => text.clear(),
-        1 => text.resize(random.size(256, 300), b'.'),
-        2 => text[at] = random.pick(&[b'a', b' ', b'[', 0, 0xFF, b'\r', b'*', b'/']),
-        3 => text[at] = random.byte(),
-        4 => text[at] = b')',
-        5 => text[at] = b'(',
-        6 => text.insert(at, b')'),
-        7 => text.insert(at, b'('),
-        _ => {
-            let length = random.size(1, 12);
-            *text = (0..length).map(|_| random.pick(b"..(()))a")).collect();
-        }
     }
 }
 
@@ -734,113 +594,4 @@ fn damage_everything(random: &mut Random, mut draft: Draft) -> Vec<u8> {
         damage_texts(random, &mut draft);
     }
     join(&draft.q, &draft.t, &deck)
-}
-
-// ---- inputs that do not hang on chance ----
-
-/// The inputs at the limits, then every change of one byte and every cut of a small one.
-pub fn fixed_inputs() -> Vec<Vec<u8>> {
-    let mut inputs = vec![
-        Vec::new(),
-        b"\n".to_vec(),
-        b"\n\n".to_vec(),
-        b".\n.\n".to_vec(),
-    ];
-    let dots = |count| vec![b'.'; count];
-    for count in [0, 1, 254, 255, 256, 257, 8192] {
-        inputs.push(join(&dots(count), b".", &[0; 4]));
-        inputs.push(join(b".", &dots(count), &[0; 4]));
-    }
-    for (seeds, pairs) in [
-        (64, 64),
-        (65, 65),
-        (64, 1024),
-        (64, 1025),
-        (1, 1024),
-        (1, 1025),
-    ] {
-        inputs.push(join(b"..", b"..", &full_deck(seeds, pairs)));
-    }
-    inputs.push(most_pairs());
-    inputs.extend(changes_of(&crate::examples::two_seeds()));
-    inputs.extend(changes_of(&crate::examples::on_empty_texts()));
-    inputs.extend(short_texts(6));
-    inputs
-}
-
-/// Four seeds that take all 256 nodes each: 1,024 pairs.
-fn most_pairs() -> Vec<u8> {
-    let all: Vec<Pair> = (0..=255).map(|node| Pair { q: node, t: node }).collect();
-    join(&[b'.'; 255], &[b'.'; 255], &plain_deck(&vec![(5, all); 4]))
-}
-
-fn changes_of(input: &[u8]) -> Vec<Vec<u8>> {
-    let mut changes: Vec<Vec<u8>> = (0..input.len()).map(|end| input[..end].to_vec()).collect();
-    for at in 0..input.len() {
-        for byte in 0..=255 {
-            let mut changed = input.to_vec();
-            changed[at] = byte;
-            changes.push(changed);
-        }
-    }
-    changes
-}
-
-/// Every text over the three bytes and a wrong one, as Q and as T, up to a length.
-fn short_texts(longest: usize) -> Vec<Vec<u8>> {
-    texts_over(b".()a", longest)
-        .iter()
-        .flat_map(|text| [join(text, b".", &[0; 4]), join(b"()", text, &[0; 4])])
-        .collect()
-}
-
-/// Every text over some bytes up to a length, the empty one first.
-fn texts_over(bytes: &[u8], longest: usize) -> Vec<Vec<u8>> {
-    let mut all: Vec<Vec<u8>> = vec![Vec::new()];
-    let mut at = 0;
-    while all[at].len() < longest {
-        for &byte in bytes {
-            let longer = [&all[at][..], &[byte]].concat();
-            all.push(longer);
-        }
-        at += 1;
-    }
-    all
-}
-
-/// Every list of one to three pairs, with two numbers beyond each tree, on every two structures of up
-/// to four bytes.
-pub fn small_lists(visit: &mut dyn FnMut(&[u8])) {
-    let texts = small_structures(4);
-    for q in &texts {
-        for t in &texts {
-            let (q_count, t_count) = (must_read(q).count, must_read(t).count);
-            let pairs: Vec<Pair> = (0..=q_count + 1)
-                .flat_map(|q| (0..=t_count + 1).map(move |t| (q as u8, t as u8)))
-                .map(|(q, t)| Pair { q, t })
-                .collect();
-            lists_of(&pairs, 3, &mut Vec::new(), &mut |list| {
-                visit(&join(q, t, &plain_deck(&[(1, list.to_vec())])))
-            });
-        }
-    }
-}
-
-fn small_structures(longest: usize) -> Vec<Vec<u8>> {
-    let mut texts = texts_over(b".()", longest);
-    texts.retain(|text| read_tree(text).is_ok());
-    texts
-}
-
-/// The lists that begin with `list` and have up to `more` pairs beyond it.
-fn lists_of(pairs: &[Pair], more: usize, list: &mut Vec<Pair>, visit: &mut dyn FnMut(&[Pair])) {
-    if more == 0 {
-        return;
-    }
-    for &pair in pairs {
-        list.push(pair);
-        visit(list);
-        lists_of(pairs, more - 1, list, visit);
-        list.pop();
-    }
 }

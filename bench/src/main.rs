@@ -2,14 +2,17 @@
 
 mod examples;
 mod families;
+mod fixed;
 mod inputs;
 mod library;
 mod quick;
+mod random;
 mod reference;
+mod texts;
 mod timing;
 
-use inputs::Random;
 use library::Library;
+use random::Random;
 use std::collections::BTreeMap;
 use std::process::exit;
 
@@ -164,7 +167,7 @@ fn check_examples(checker: &mut Checker) {
 }
 
 fn check_fixed(checker: &mut Checker) {
-    let inputs = inputs::fixed_inputs();
+    let inputs = fixed::fixed_inputs();
     inputs.iter().for_each(|input| checker.check(input));
     println!(
         "limits, changes of one byte, short texts: {} alike",
@@ -188,7 +191,7 @@ fn check_random(count: usize, start: u64) {
 /// About eight million lists: only if asked for.
 fn check_lists(checker: &mut Checker) {
     let mut count = 0;
-    inputs::small_lists(&mut |input| {
+    fixed::small_lists(&mut |input| {
         checker.check(input);
         count += 1;
     });

@@ -1,8 +1,8 @@
 //! Times the library and the reference on the same inputs.
 
 use crate::families::{Family, FAMILIES};
-use crate::inputs::Random;
 use crate::library::Library;
+use crate::random::Random;
 use crate::{quick, reference};
 use std::hint::black_box;
 use std::time::Instant;
