@@ -1,11 +1,20 @@
 //! The examples of documents 01 and 02 that the printed lines can show, with what they print.
 
+use crate::inputs::join;
 use crate::reference::read_tree;
 
 const A: &[u8] = b"(.(.)).";
 const B: &[u8] = b"(.)(.)";
+const DECK: [u8; 24] = [
+    2, 0, 0, 2, 0, 0, 0, 3, 0, 1, 0, 0, 0, 2, 0, 2, 2, 1, 0, 0, 4, 3, 0, 0,
+];
 
 type Seed<'a> = (i32, &'a [(u8, u8)]);
+
+/// An input with its lines.
+type Row = (Vec<u8>, &'static str);
+
+const NOTHING: &str = "score 0\nchain\n";
 
 /// Q, T and the seeds in plain form.
 fn input(q: &[u8], t: &[u8], seeds: &[Seed]) -> Vec<u8> {
@@ -37,12 +46,14 @@ fn input(q: &[u8], t: &[u8], seeds: &[Seed]) -> Vec<u8> {
     bytes
 }
 
-/// The example deck of 24 bytes behind A and B.
+/// The example deck behind A and B.
 pub fn two_seeds() -> Vec<u8> {
-    let deck = [
-        2, 0, 0, 2, 0, 0, 0, 3, 0, 1, 0, 0, 0, 2, 0, 2, 2, 1, 0, 0, 4, 3, 0, 0,
-    ];
-    [A, b"\n", B, b"\n", &deck].concat()
+    join(A, B, &DECK)
+}
+
+/// The same with A and B written in all kinds of brackets and five unpaired marks.
+pub fn two_seeds_in_wuss() -> Vec<u8> {
+    join(b"<_[-]>:", b"{~}(,)", &DECK)
 }
 
 /// One seed on the added roots of two empty texts.
@@ -73,17 +84,29 @@ fn text(q: &[u8]) -> Vec<u8> {
 }
 
 /// Inputs with their lines.
-pub fn all() -> Vec<(Vec<u8>, &'static str)> {
-    let nothing = "score 0\nchain\n";
+pub fn all() -> Vec<Row> {
+    [
+        on_a_and_b(),
+        on_one_text(),
+        how_open_questions_are_read(),
+        without_structure(),
+        in_wuss(),
+        judged_before_the_rest(),
+        from_files(),
+    ]
+    .concat()
+}
+
+fn on_a_and_b() -> Vec<Row> {
     vec![
         (one(1, &[(2, 0), (5, 4)]), "refused 19 seed 1\n"),
         (one(1, &[(0, 0), (1, 1)]), "refused 17 seed 1\n"),
         (one(1, &[(0, 0), (4, 2)]), "refused 18 seed 1\n"),
         (one(1, &[(1, 0), (3, 1)]), "score 1\nchain 1\n"),
         (one(1, &[(3, 1), (5, 4)]), "score 1\nchain 1\n"),
-        (input(A, B, &[]), nothing),
-        (one(0, &[(0, 0)]), nothing),
-        (one(-1, &[(0, 0)]), nothing),
+        (input(A, B, &[]), NOTHING),
+        (one(0, &[(0, 0)]), NOTHING),
+        (one(-1, &[(0, 0)]), NOTHING),
         (five(3), "score 6\nchain 1 2 3\n"),
         (five(4), "score 7\nchain 2 3 4\n"),
         // Seed 2 withdrawn: the deck goes without it, so 3 and 4 are 2 and 3 here.
@@ -101,27 +124,41 @@ pub fn all() -> Vec<(Vec<u8>, &'static str)> {
             "score 5\nchain 2 3\n",
         ),
         (two_seeds(), "score 5\nchain 1 2\n"),
-        (text(&[b'.'; 255]), nothing),
+        (one(1_000_000, &[(0, 0)]), "score 1000000\nchain 1\n"),
+        (one(1_000_001, &[(0, 0)]), "refused 11 seed 1\n"),
+    ]
+}
+
+fn on_one_text() -> Vec<Row> {
+    vec![
+        (text(&[b'.'; 255]), NOTHING),
         (text(&[b'.'; 256]), "refused 1 Q 0\n"),
         (text(b")a"), "refused 2 Q 1\n"),
         (text(b"("), "refused 4 Q 0\n"),
-        (one(1_000_000, &[(0, 0)]), "score 1000000\nchain 1\n"),
-        (one(1_000_001, &[(0, 0)]), "refused 11 seed 1\n"),
-        // How open questions are read.
+    ]
+}
+
+fn how_open_questions_are_read() -> Vec<Row> {
+    vec![
         (text(b"(()"), "refused 4 Q 0\n"),
         (text(b"()("), "refused 4 Q 2\n"),
         (text(b")("), "refused 3 Q 0\n"),
         (b"..\n.".to_vec(), "refused 5\n"),
         (b".\n.\n\0\0\0\0\n".to_vec(), "refused 5\n"),
         (b".\n.\n\0\0\0\x01\0\0\0\0".to_vec(), "refused 8\n"),
-        // Texts without structure (document 02, f).
+    ]
+}
+
+/// Document 02, f.
+fn without_structure() -> Vec<Row> {
+    vec![
         (b"".to_vec(), "refused 5\n"),
         (b".".to_vec(), "refused 5\n"),
         (b".\n".to_vec(), "refused 5\n"),
         (b"\n\n".to_vec(), "refused 5\n"),
         (b"(".to_vec(), "refused 4 Q 0\n"),
         (input(b"", &[b'.'; 256], &[]), "refused 1 T 0\n"),
-        (input(b"", b"", &[]), nothing),
+        (input(b"", b"", &[]), NOTHING),
         (on_empty_texts(), "score 5\nchain 1\n"),
         // Both seeds take the only node.
         (
@@ -137,6 +174,60 @@ pub fn all() -> Vec<(Vec<u8>, &'static str)> {
     ]
 }
 
+/// Document 02, b: partners are found blind to the kind, and 24 comes after 2, 3 and 4.
+fn in_wuss() -> Vec<Row> {
+    vec![
+        (text(b"<<<___>>>,,(((...)))::~~--"), NOTHING),
+        (text(b"<([{.,:_-~}])>"), NOTHING),
+        (two_seeds_in_wuss(), "score 5\nchain 1 2\n"),
+        (text(b"(<)"), "refused 4 Q 0\n"),
+        (text(b"<)"), "refused 24 Q 1\n"),
+        (text(b"(]"), "refused 24 Q 1\n"),
+        (text(b"[(])"), "refused 24 Q 2\n"),
+        (text(b"<(>)a"), "refused 2 Q 4\n"),
+        (text(b"<A>a"), "refused 2 Q 1\n"),
+        (text(b")<"), "refused 3 Q 0\n"),
+        (text(b"<)}"), "refused 3 Q 2\n"),
+        (text(b"<){"), "refused 4 Q 2\n"),
+    ]
+}
+
+/// Q by all grounds of a text before T, and both before the deck.
+fn judged_before_the_rest() -> Vec<Row> {
+    vec![
+        (input(b"<)", b"(", &[]), "refused 24 Q 1\n"),
+        (input(b"<)", &[b'.'; 256], &[]), "refused 24 Q 1\n"),
+        (input(b"<>", b"[_)", &[]), "refused 24 T 2\n"),
+        (b"<)".to_vec(), "refused 24 Q 1\n"),
+        (b"<>\n{-)\n\x01".to_vec(), "refused 24 T 2\n"),
+    ]
+}
+
+/// The inputs of the directory of examples that stand there in dots and round brackets and in WUSS.
+fn from_files() -> Vec<Row> {
+    let (trna, ribosomal) = (
+        "score 254\nchain 1 2 3 4\n",
+        "score 451\nchain 1 2 3 4 6 7 8 9 11 15\n",
+    );
+    let [trna_in_wuss, ribosomal_in_wuss] = files_in_wuss();
+    vec![
+        (include_bytes!("../../examples/tRNA.input").to_vec(), trna),
+        (trna_in_wuss, trna),
+        (
+            include_bytes!("../../examples/5S_rRNA.input").to_vec(),
+            ribosomal,
+        ),
+        (ribosomal_in_wuss, ribosomal),
+    ]
+}
+
+pub fn files_in_wuss() -> [Vec<u8>; 2] {
+    [
+        include_bytes!("../../examples/tRNA_wuss.input").to_vec(),
+        include_bytes!("../../examples/5S_rRNA_wuss.input").to_vec(),
+    ]
+}
+
 /// The leftmost leaves of A and B.
 pub fn leftmost_leaves_are_right() -> bool {
     let leaves = |text| {
@@ -145,4 +236,15 @@ pub fn leftmost_leaves_are_right() -> bool {
             .ok()
     };
     leaves(A) == Some(vec![0, 1, 1, 0, 4, 0]) && leaves(B) == Some(vec![0, 0, 2, 2, 0])
+}
+
+/// Of the texts of one byte six are a structure, four close nothing, four are never closed.
+pub fn texts_of_one_byte_are_right() -> bool {
+    let count = |refusal| {
+        let bytes = 0..=255;
+        bytes
+            .filter(|&byte| read_tree(&[byte]).err() == refusal)
+            .count()
+    };
+    [None, Some((2, 0)), Some((3, 0)), Some((4, 0))].map(count) == [6, 242, 4, 4]
 }

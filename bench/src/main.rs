@@ -163,6 +163,9 @@ fn check_examples(checker: &mut Checker) {
     if !examples::leftmost_leaves_are_right() {
         fail("the leftmost leaves of the example trees", b"");
     }
+    if !examples::texts_of_one_byte_are_right() {
+        fail("the texts of one byte", b"");
+    }
     println!("examples: {} right", examples.len());
 }
 
