@@ -3,7 +3,7 @@
 use crate::inputs::{draft_on, join, must_read, plain_deck, rising, some_score, Draft};
 use crate::random::Random;
 use crate::reference::Pair;
-use crate::texts::{comb_of, nest_of, structure};
+use crate::texts::{comb_of, in_all_marks, nest_of, structure};
 
 /// Inputs of one kind at several sizes.
 pub struct Family {
@@ -16,8 +16,9 @@ pub struct Family {
 
 const SEEDS: &[usize] = &[8, 16, 32, 64];
 
-/// Small seeds, where finding the best chain costs most; then large ones, where judging them does.
-pub const FAMILIES: [Family; 11] = [
+/// Small seeds, where finding the best chain costs most; then large ones, where judging them does;
+/// then two of the first again, where reading takes other characters.
+pub const FAMILIES: [Family; 13] = [
     family("flat", "seeds", SEEDS, flat),
     family("nested", "seeds", SEEDS, nested),
     family("comb", "seeds", SEEDS, comb),
@@ -49,6 +50,8 @@ pub const FAMILIES: [Family; 11] = [
         bare_nest,
     ),
     family("the slowest found by a search", "seeds", &[64], climbed),
+    family("nested in WUSS", "seeds", SEEDS, nested_in_wuss),
+    family("comb in WUSS", "seeds", SEEDS, comb_in_wuss),
 ];
 
 const fn family(
@@ -75,6 +78,19 @@ fn nested(random: &mut Random, seeds: usize) -> Vec<u8> {
 
 fn comb(random: &mut Random, seeds: usize) -> Vec<u8> {
     row_of_seeds(random, comb_of(85), seeds, false)
+}
+
+fn nested_in_wuss(random: &mut Random, seeds: usize) -> Vec<u8> {
+    row_of_seeds(random, in_wuss(&nest_of(127)), seeds, true)
+}
+
+fn comb_in_wuss(random: &mut Random, seeds: usize) -> Vec<u8> {
+    row_of_seeds(random, in_wuss(&comb_of(85)), seeds, false)
+}
+
+/// The marks have a start of their own, so that the seeds are those of the same text in plain form.
+fn in_wuss(text: &[u8]) -> Vec<u8> {
+    in_all_marks(&mut Random::new(1), text)
 }
 
 /// A random structure, with seeds of up to four pairs.

@@ -1,8 +1,9 @@
-//! Inputs from a fixed start: valid ones, and ones that are damaged in every way document 01 names.
+//! Inputs from a fixed start: valid ones, and ones that are damaged in every way documents 01 and 02
+//! name.
 
 use crate::random::Random;
 use crate::reference::{read_tree, Pair, Tree};
-use crate::texts::{damage_text, some_texts};
+use crate::texts::{damage_text, in_some_marks, some_texts};
 
 /// What an input is made from: two texts, and seeds as scores with pairs.
 #[derive(Clone)]
@@ -12,15 +13,15 @@ pub struct Draft {
     pub seeds: Vec<(i32, Vec<Pair>)>,
 }
 
-/// Any input: two in five are valid, the others are damaged once or twice.
+/// Any input: more than a third are valid, the others are damaged once or twice.
 pub fn any_input(random: &mut Random) -> Vec<u8> {
     let draft = valid_draft(random);
     match random.below(100) {
-        0..=39 => lay_out(random, &draft),
-        40..=63 => with_bad_seeds(random, draft),
-        64..=79 => with_bad_deck(random, &draft, damage_records),
-        80..=84 => with_bad_deck(random, &draft, damage_layout),
-        85..=92 => with_bad_texts(random, draft),
+        0..=36 => lay_out(random, &draft),
+        37..=59 => with_bad_seeds(random, draft),
+        60..=73 => with_bad_deck(random, &draft, damage_records),
+        74..=78 => with_bad_deck(random, &draft, damage_layout),
+        79..=92 => with_bad_texts(random, draft),
         93..=97 => {
             let whole = lay_out(random, &draft);
             damage_whole(random, whole)
@@ -215,7 +216,13 @@ fn valid_draft(random: &mut Random) -> Draft {
         random.pick(&[1, 2, 3, 4, 6, 12, 30])
     };
     let style = random.pick(&[0, 0, 1, 1, 1, 2, 2, 3, 4, 4, 5, 6, 7, 7]);
-    draft_on(random, q, t, seeds, most, style)
+    let mut draft = draft_on(random, q, t, seeds, most, style);
+    // Seeds hang on the trees alone, so that other marks leave them valid.
+    if random.chance(60) {
+        draft.q = in_some_marks(random, &draft.q);
+        draft.t = in_some_marks(random, &draft.t);
+    }
+    draft
 }
 
 /// Valid seeds of at most `most` pairs on two given texts, never beyond 1,024 pairs in all.
@@ -258,6 +265,12 @@ pub fn must_read(text: &[u8]) -> Tree {
 
 pub fn join(q: &[u8], t: &[u8], deck: &[u8]) -> Vec<u8> {
     [q, b"\n", t, b"\n", deck].concat()
+}
+
+/// Q and T of an input with two line feeds.
+pub fn texts_of(input: &[u8]) -> [&[u8]; 2] {
+    let mut texts = input.split(|&byte| byte == b'\n');
+    [(); 2].map(|_| texts.next().expect("two line feeds end two texts"))
 }
 
 /// The deck's bytes; the records lie in the given order of places, one after another if plain.
@@ -526,14 +539,18 @@ pub fn full_deck(seeds: usize, pairs: usize) -> Vec<u8> {
     plain_deck(&list)
 }
 
-// ---- damage to the texts: grounds 1 to 4 ----
+// ---- damage to the texts: grounds 1 to 4 and 24 ----
 
 fn damage_texts(random: &mut Random, draft: &mut Draft) {
-    if random.chance(60) {
-        damage_text(random, &mut draft.q);
-    }
-    if random.chance(60) {
-        damage_text(random, &mut draft.t);
+    // A bad Q hides what is wrong with T, so T is damaged more often.
+    for (text, percent) in [(&mut draft.q, 45), (&mut draft.t, 70)] {
+        if random.chance(percent) {
+            damage_text(random, text);
+            // Two at once show which ground comes first.
+            if random.chance(25) {
+                damage_text(random, text);
+            }
+        }
     }
 }
 
@@ -579,7 +596,7 @@ fn damage_everything(random: &mut Random, mut draft: Draft) -> Vec<u8> {
     if random.chance(25) {
         let length = random.below(60);
         return (0..length)
-            .map(|_| random.pick(b".().()\n\n\0\x01"))
+            .map(|_| random.pick(b".()<>_\n\n\0\x01"))
             .collect();
     }
     damage_seed(random, &mut draft);

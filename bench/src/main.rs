@@ -11,13 +11,42 @@ mod reference;
 mod texts;
 mod timing;
 
+use inputs::texts_of;
 use library::Library;
 use random::Random;
 use std::collections::BTreeMap;
 use std::process::exit;
+use texts::{is_plain, kinds_in};
 
-/// The grounds that the printed lines can name.
-const GROUNDS: [u8; 14] = [1, 2, 3, 4, 5, 6, 7, 8, 11, 15, 16, 17, 18, 19];
+/// The refusals that the printed lines can name, as they are counted.
+const REFUSALS: [&str; 20] = [
+    "refused  1 Q",
+    "refused  1 T",
+    "refused  2 Q",
+    "refused  2 T",
+    "refused  3 Q",
+    "refused  3 T",
+    "refused  4 Q",
+    "refused  4 T",
+    "refused  5",
+    "refused  6 seed",
+    "refused  7 seed",
+    "refused  8",
+    "refused 11 seed",
+    "refused 15 seed",
+    "refused 16 seed",
+    "refused 17 seed",
+    "refused 18 seed",
+    "refused 19 seed",
+    "refused 24 Q",
+    "refused 24 T",
+];
+/// What is counted of the texts of accepted inputs.
+const ACCEPTED: [&str; 3] = [
+    "accepted on an empty text",
+    "accepted with several kinds of brackets in a text",
+    "accepted in dots and round brackets alone",
+];
 /// Trying every set of seeds stays cheap up to here.
 const TRIED: usize = 14;
 
@@ -26,7 +55,7 @@ struct Checker {
     outcomes: BTreeMap<String, usize>,
     tried: usize,
     tied: usize,
-    on_empty: usize,
+    accepted: [usize; ACCEPTED.len()],
     longest: u32,
 }
 
@@ -38,7 +67,7 @@ impl Checker {
             outcomes,
             tried: 0,
             tied: 0,
-            on_empty: 0,
+            accepted: [0; ACCEPTED.len()],
             longest: 0,
         }
     }
@@ -72,7 +101,7 @@ impl Checker {
         let Ok(session) = reference::open(input, reference::check_seed) else {
             return;
         };
-        self.on_empty += (session.q.count == 1 || session.t.count == 1) as usize;
+        self.count_accepted(input);
         let best = reference::best_chain(&session, reference::chainable);
         self.longest = self.longest.max(best.mask.count_ones());
         if session.seeds.len() > TRIED {
@@ -87,6 +116,17 @@ impl Checker {
         self.tied += (ties > 1) as usize;
     }
 
+    fn count_accepted(&mut self, input: &[u8]) {
+        let texts = texts_of(input);
+        // In the order of their names.
+        let met = [
+            texts.iter().any(|text| text.is_empty()),
+            texts.iter().any(|text| kinds_in(text) > 1),
+            texts.iter().all(|text| is_plain(text)),
+        ];
+        (0..met.len()).for_each(|at| self.accepted[at] += met[at] as usize);
+    }
+
     fn print_counts(&self) {
         for (outcome, count) in &self.outcomes {
             println!("  {outcome:<22}{count:>8}");
@@ -95,25 +135,20 @@ impl Checker {
             "  {} of them also by trying every set, {} with a tie",
             self.tried, self.tied
         );
-        println!("  {} accepted on an empty text", self.on_empty);
+        for (what, count) in ACCEPTED.iter().zip(self.accepted) {
+            println!("  {count} {what}");
+        }
         println!("  the longest chain has {} seeds", self.longest);
     }
 
-    /// Too few of a ground, or on an empty text, would leave them unchecked.
+    /// Too few of a refusal, or of a kind of accepted texts, would leave them unchecked.
     fn fail_if_rare(&self, least: usize) {
-        if self.on_empty < least {
-            println!("only {} were accepted on an empty text", self.on_empty);
-            exit(1);
-        }
-        for ground in GROUNDS {
-            let start = format!("refused {ground:>2}");
-            let hits = self
-                .outcomes
-                .iter()
-                .filter(|(outcome, _)| outcome.starts_with(&start));
-            let count: usize = hits.map(|(_, count)| count).sum();
+        let count = |refusal| self.outcomes.get(refusal).copied().unwrap_or(0);
+        let refused = REFUSALS.map(|refusal| (refusal, count(refusal)));
+        let accepted = ACCEPTED.into_iter().zip(self.accepted);
+        for (what, count) in refused.into_iter().chain(accepted) {
             if count < least {
-                println!("ground {ground} came up {count} times only");
+                println!("{what}: only {count}");
                 exit(1);
             }
         }
@@ -125,7 +160,8 @@ fn outcome(lines: &[u8]) -> String {
     let text = String::from_utf8_lossy(lines);
     let words: Vec<&str> = text.split_whitespace().collect();
     match words[0] {
-        "refused" => format!("refused {:>2} {}", words[1], words.get(2).unwrap_or(&"")),
+        "refused" if words.len() == 2 => format!("refused {:>2}", words[1]),
+        "refused" => format!("refused {:>2} {}", words[1], words[2]),
         _ if words.len() == 3 => "accepted, no chain".to_string(),
         _ => "accepted, a chain".to_string(),
     }

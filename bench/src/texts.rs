@@ -2,6 +2,11 @@
 
 use crate::random::Random;
 
+/// An opening bracket and the closing one of its kind stand at the same place.
+pub const OPENINGS: [u8; 4] = *b"<([{";
+pub const CLOSINGS: [u8; 4] = *b">)]}";
+const MARKS: [u8; 6] = *b".,:_-~";
+
 /// A structure of just this length; `open` and `close` are chances in a hundred.
 pub fn structure(random: &mut Random, length: usize, open: usize, close: usize) -> Vec<u8> {
     let mut text = Vec::with_capacity(length);
@@ -72,6 +77,46 @@ pub fn some_texts(random: &mut Random) -> (Vec<u8>, Vec<u8>) {
     (q, t)
 }
 
+/// A structure of dots and round brackets with each pair and each dot written anew, in some of the
+/// kinds and of the unpaired marks.
+fn written_in(random: &mut Random, text: &[u8], kinds: &[usize], marks: &[u8]) -> Vec<u8> {
+    let mut open = Vec::new();
+    let byte_for = |byte: &u8| match byte {
+        b'(' => {
+            let kind = random.pick(kinds);
+            open.push(kind);
+            OPENINGS[kind]
+        }
+        b')' => CLOSINGS[open.pop().expect("a structure closes what is open")],
+        _ => random.pick(marks),
+    };
+    text.iter().map(byte_for).collect()
+}
+
+/// In all kinds of brackets and all unpaired marks.
+pub fn in_all_marks(random: &mut Random, text: &[u8]) -> Vec<u8> {
+    written_in(random, text, &[0, 1, 2, 3], &MARKS)
+}
+
+/// Mostly in all of them, else in few.
+pub fn in_some_marks(random: &mut Random, text: &[u8]) -> Vec<u8> {
+    let (mut kinds, mut marks) = ([0, 1, 2, 3], MARKS);
+    random.shuffle(&mut kinds);
+    random.shuffle(&mut marks);
+    let (few_kinds, few_marks) = (random.pick(&[1, 2, 4, 4]), random.pick(&[1, 2, 6, 6]));
+    written_in(random, text, &kinds[..few_kinds], &marks[..few_marks])
+}
+
+/// How many kinds of brackets open in a text.
+pub fn kinds_in(text: &[u8]) -> usize {
+    OPENINGS.iter().filter(|byte| text.contains(byte)).count()
+}
+
+/// Whether a text has nothing but dots and round brackets.
+pub fn is_plain(text: &[u8]) -> bool {
+    text.iter().all(|byte| b".()".contains(byte))
+}
+
 pub fn nest_of(brackets: usize) -> Vec<u8> {
     [b"(".repeat(brackets), b".".to_vec(), b")".repeat(brackets)].concat()
 }
@@ -94,7 +139,17 @@ pub fn texts_over(bytes: &[u8], longest: usize) -> Vec<Vec<u8>> {
     all
 }
 
-// ---- damage: grounds 1 to 4 ----
+/// The brackets of the other kinds on the same side; none for a byte that is no bracket.
+pub fn other_kinds(byte: u8) -> Vec<u8> {
+    let sides = [OPENINGS, CLOSINGS].into_iter();
+    let side = sides.filter(|side| side.contains(&byte)).flatten();
+    side.filter(|&other| other != byte).collect()
+}
+
+// ---- damage: grounds 1 to 4 and 24 ----
+
+/// Letters, control characters, and what lies next to the bytes that have a meaning.
+const REFUSED: &[u8] = b"aABzZuG \0\r\t\xFF\x7F\x80'*+/;=@\\^`|";
 
 pub fn damage_text(random: &mut Random, text: &mut Vec<u8>) {
     // An empty text has no byte to spoil.
@@ -102,19 +157,39 @@ pub fn damage_text(random: &mut Random, text: &mut Vec<u8>) {
         text.push(b'.');
     }
     let at = random.below(text.len());
-    match random.below(9) {
+    match random.below(20) {
         // A structure all the same, but mostly not the seeds'.
         0 => text.clear(),
-        1 => text.resize(random.size(256, 300), b'.'),
-        2 => text[at] = random.pick(&[b'a', b' ', b'[', 0, 0xFF, b'\r', b'*', b'/']),
-        3 => text[at] = random.byte(),
-        4 => text[at] = b')',
-        5 => text[at] = b'(',
-        6 => text.insert(at, b')'),
-        7 => text.insert(at, b'('),
-        _ => {
-            let length = random.size(1, 12);
-            *text = (0..length).map(|_| random.pick(b"..(()))a")).collect();
-        }
+        1 | 2 => text.resize(random.size(256, 300), b'.'),
+        3 | 4 => text[at] = random.pick(REFUSED),
+        5 => text[at] = random.byte(),
+        6 | 7 => text[at] = random.pick(&CLOSINGS),
+        8 | 9 => text[at] = random.pick(&OPENINGS),
+        10 | 11 => text.insert(at, random.pick(&CLOSINGS)),
+        12 | 13 => text.insert(at, random.pick(&OPENINGS)),
+        14 => *text = any_bytes(random),
+        15 => exchange_brackets(random, text, 2),
+        _ => exchange_brackets(random, text, 1),
+    }
+}
+
+fn any_bytes(random: &mut Random) -> Vec<u8> {
+    let length = random.size(1, 12);
+    let bytes = random.pick(&[b"..(()))a", b"<>()[]{}", b"<<>>()_;"]);
+    (0..length).map(|_| random.pick(bytes)).collect()
+}
+
+/// Writes so many brackets as others on the same side; a text without brackets gets a pair first.
+fn exchange_brackets(random: &mut Random, text: &mut Vec<u8>, count: usize) {
+    if kinds_in(text) == 0 {
+        text.insert(0, b'(');
+        text.push(b')');
+    }
+    let brackets: Vec<usize> = (0..text.len())
+        .filter(|&at| !other_kinds(text[at]).is_empty())
+        .collect();
+    for _ in 0..count {
+        let at = random.pick(&brackets);
+        text[at] = random.pick(&other_kinds(text[at]));
     }
 }
