@@ -1,11 +1,13 @@
 //! Inputs that do not hang on chance: at the limits, every small change, every small list.
 
-use crate::examples::{on_empty_texts, two_seeds};
-use crate::inputs::{full_deck, join, must_read, plain_deck};
+use crate::examples::{files_in_wuss, on_empty_texts, two_seeds, two_seeds_in_wuss};
+use crate::inputs::{full_deck, join, must_read, plain_deck, texts_of};
+use crate::random::Random;
 use crate::reference::{read_tree, Pair};
-use crate::texts::texts_over;
+use crate::texts::{in_all_marks, nest_of, other_kinds, texts_over, CLOSINGS, OPENINGS};
 
-/// The inputs at the limits, then every change of one byte and every cut of a small one.
+/// The inputs at the limits, every change of one byte and every cut of small ones, every change of a
+/// bracket of larger ones, and given texts.
 pub fn fixed_inputs() -> Vec<Vec<u8>> {
     let mut inputs = vec![
         Vec::new(),
@@ -29,9 +31,14 @@ pub fn fixed_inputs() -> Vec<Vec<u8>> {
         inputs.push(join(b"..", b"..", &full_deck(seeds, pairs)));
     }
     inputs.push(most_pairs());
-    inputs.extend(changes_of(&two_seeds()));
-    inputs.extend(changes_of(&on_empty_texts()));
-    inputs.extend(short_texts(6));
+    for small in [two_seeds(), two_seeds_in_wuss(), on_empty_texts()] {
+        inputs.extend(changes_of(&small));
+    }
+    for input in files_in_wuss() {
+        inputs.extend(changes_of_brackets(&input));
+    }
+    inputs.extend(given_texts().iter().flat_map(|text| as_q_and_t(text)));
+    inputs.extend(one_before_the_other());
     inputs
 }
 
@@ -45,20 +52,72 @@ fn changes_of(input: &[u8]) -> Vec<Vec<u8>> {
     let mut changes: Vec<Vec<u8>> = (0..input.len()).map(|end| input[..end].to_vec()).collect();
     for at in 0..input.len() {
         for byte in 0..=255 {
-            let mut changed = input.to_vec();
-            changed[at] = byte;
-            changes.push(changed);
+            changes.push(with_byte(input, at, byte));
         }
     }
     changes
 }
 
-/// Every text over the three bytes and a wrong one, as Q and as T, up to a length.
-fn short_texts(longest: usize) -> Vec<Vec<u8>> {
-    texts_over(b".()a", longest)
-        .iter()
-        .flat_map(|text| [join(text, b".", &[0; 4]), join(b"()", text, &[0; 4])])
-        .collect()
+/// An input with each bracket of its texts, one at a time, as each of the seven other brackets.
+fn changes_of_brackets(input: &[u8]) -> Vec<Vec<u8>> {
+    let [q, t] = texts_of(input);
+    let brackets = [OPENINGS, CLOSINGS].concat();
+    let mut changes = Vec::new();
+    for at in 0..q.len() + 1 + t.len() {
+        if brackets.contains(&input[at]) {
+            let others = brackets.iter().filter(|&&byte| byte != input[at]);
+            changes.extend(others.map(|&byte| with_byte(input, at, byte)));
+        }
+    }
+    changes
+}
+
+fn with_byte(bytes: &[u8], at: usize, byte: u8) -> Vec<u8> {
+    let mut changed = bytes.to_vec();
+    changed[at] = byte;
+    changed
+}
+
+fn as_q_and_t(text: &[u8]) -> [Vec<u8>; 2] {
+    [join(text, b".", &[0; 4]), join(b"()", text, &[0; 4])]
+}
+
+/// Every byte alone, every text over few bytes up to a length, and deep texts with unlike partners.
+fn given_texts() -> Vec<Vec<u8>> {
+    // A line feed would end the text.
+    let bytes = (0..=255).filter(|&byte| byte != b'\n');
+    let mut texts: Vec<Vec<u8>> = bytes.map(|byte| vec![byte]).collect();
+    texts.extend(texts_over(b".()a", 6));
+    texts.extend(texts_over(b"<>()a", 5));
+    texts.extend(texts_over(b"<>()[]{}", 4));
+    for deep in [
+        nest_of(127),
+        in_all_marks(&mut Random::new(1), &nest_of(127)),
+    ] {
+        texts.extend(unlike_partners(&deep));
+    }
+    texts
+}
+
+/// A nest of 127 brackets as it is, then with unlike partners at its first closing bracket, at its last
+/// one, and at both.
+fn unlike_partners(nest: &[u8]) -> Vec<Vec<u8>> {
+    let mut texts = vec![nest.to_vec()];
+    for at in [0, 126, 128, 254] {
+        let others = other_kinds(nest[at]);
+        texts.extend(others.iter().map(|&byte| with_byte(nest, at, byte)));
+    }
+    let first_unlike = with_byte(nest, 128, other_kinds(nest[128])[0]);
+    texts.push(with_byte(&first_unlike, 254, other_kinds(nest[254])[0]));
+    texts
+}
+
+/// One text of each ground and accepted ones as Q and as T, before a deck that is too short.
+fn one_before_the_other() -> Vec<Vec<u8>> {
+    let long = [b'.'; 256];
+    let texts: [&[u8]; 8] = [b"", b"<>", &long, b"a", b")", b"(", b"<)", b"{[}]"];
+    let with_any_t = |q| texts.map(|t| join(q, t, &[0; 3]));
+    texts.iter().flat_map(|&q| with_any_t(q)).collect()
 }
 
 /// Every list of one to three pairs, with two numbers beyond each tree, on every two structures of up
