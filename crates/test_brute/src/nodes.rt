@@ -1,4 +1,6 @@
 // A tree by the parent of each of its nodes, read from a text of at most 12 bytes, without the library.
+use super::texts::closes;
+use super::texts::opens;
 use test_words::plain::more;
 use test_words::plain::small;
 
@@ -81,7 +83,7 @@ fn opened(r: Reader, k: usize) -> Reader {
     next
 }
 
-fn dotted(r: Reader, k: usize) -> Reader {
+fn unpaired(r: Reader, k: usize) -> Reader {
     let nodes = r.nodes;
     let mut next = owned(r, k, nodes.n);
     next.nodes = with_node(nodes, nodes.n);
@@ -106,13 +108,13 @@ fn closed(r: Reader, k: usize) -> Reader {
 }
 
 fn stepped(r: Reader, k: usize, byte: u8) -> Reader {
-    if byte == b'(' {
+    if opens(byte) {
         return opened(r, k);
     }
-    if byte == b')' {
+    if closes(byte) {
         return closed(r, k);
     }
-    dotted(r, k)
+    unpaired(r, k)
 }
 
 // Reads a text that is known to be a structure.

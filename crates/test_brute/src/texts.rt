@@ -1,4 +1,5 @@
-// Grounds 1 to 4 of a text whose only other byte is an x.
+// Grounds 1 to 4 and 24 of a text of any bytes.
+use test_words::plain::byte_at;
 use test_words::plain::find;
 use test_words::plain::less;
 use test_words::plain::more;
@@ -9,21 +10,50 @@ pub struct Verdict {
     pub at: usize,
 }
 
-// How many brackets are open behind a byte: a ")" that closes nothing changes nothing.
+// Where a byte stands among the fourteen that mean something: the brackets, each closing one behind its opening one, then the unpaired marks.
+fn rank(byte: u8) -> usize {
+    find(b"()<>[]{}.,:_-~", 0, byte, byte)
+}
+
+pub fn opens(byte: u8) -> bool {
+    let k = rank(byte);
+    if k < 8 { k % 2 == 0 } else { false }
+}
+
+pub fn closes(byte: u8) -> bool {
+    let k = rank(byte);
+    if k < 8 { k % 2 == 1 } else { false }
+}
+
+// Which of the four kinds a bracket is of.
+fn kind(byte: u8) -> usize {
+    rank(byte) / 2
+}
+
+// How many brackets are open behind a byte: a closing one that closes nothing changes nothing.
 pub fn deeper(depth: usize, byte: u8) -> usize {
-    if byte == b'(' {
+    if opens(byte) {
         return more(depth);
     }
-    if byte == b')' {
+    if closes(byte) {
         return less(depth);
     }
     depth
 }
 
+fn first_refused(s: &[u8]) -> usize {
+    for k in 0..s.len() {
+        if 13 < rank(s[k]) {
+            return k;
+        }
+    }
+    s.len()
+}
+
 fn first_closing_nothing(s: &[u8]) -> usize {
     let mut depth = 0;
     for k in 0..s.len() {
-        if s[k] == b')' {
+        if closes(s[k]) {
             if depth == 0 {
                 return k;
             }
@@ -33,7 +63,7 @@ fn first_closing_nothing(s: &[u8]) -> usize {
     s.len()
 }
 
-// Whether the "(" at a byte is closed later: the brackets behind it come back to as many as before it.
+// Whether the opening bracket at a byte is closed later: the brackets behind it come back to as many as before it.
 fn is_closed(s: &[u8], at: usize) -> bool {
     let mut depth = 1;
     for k in at..s.len() {
@@ -49,7 +79,7 @@ fn is_closed(s: &[u8], at: usize) -> bool {
 
 fn first_never_closed(s: &[u8]) -> usize {
     for k in 0..s.len() {
-        if s[k] == b'(' {
+        if opens(s[k]) {
             if !is_closed(s, k) {
                 return k;
             }
@@ -58,17 +88,52 @@ fn first_never_closed(s: &[u8]) -> usize {
     s.len()
 }
 
-// The first of the grounds 1 to 4 that holds of a text.
+// How many closing brackets are still to be opened before a byte, going backwards.
+fn deeper_before(depth: usize, byte: u8) -> usize {
+    if closes(byte) {
+        return more(depth);
+    }
+    if opens(byte) {
+        return less(depth);
+    }
+    depth
+}
+
+// The bracket that the closing one at a byte closes: going backwards from it, none is left to be opened. One that closes nothing is answered itself.
+pub fn partner(s: &[u8], at: usize) -> usize {
+    let mut depth = 1;
+    for j in 0..at {
+        let k = at - 1 - j;
+        depth = deeper_before(depth, byte_at(s, k));
+        if depth == 0 {
+            return k;
+        }
+    }
+    at
+}
+
+fn first_of_another_kind(s: &[u8]) -> usize {
+    for k in 0..s.len() {
+        if closes(s[k]) {
+            if kind(byte_at(s, partner(s, k))) != kind(s[k]) {
+                return k;
+            }
+        }
+    }
+    s.len()
+}
+
+// The first of grounds 1 to 4 and 24 that holds of a text.
 pub fn judge(s: &[u8]) -> Verdict {
     let n = s.len();
     if 255 < n {
         return Verdict { ground: 1, at: 0 };
     }
-    let other = find(s, 0, b'x', b'x');
-    if other < n {
+    let refused = first_refused(s);
+    if refused < n {
         return Verdict {
             ground: 2,
-            at: other,
+            at: refused,
         };
     }
     let closing = first_closing_nothing(s);
@@ -83,6 +148,13 @@ pub fn judge(s: &[u8]) -> Verdict {
         return Verdict {
             ground: 4,
             at: never,
+        };
+    }
+    let another = first_of_another_kind(s);
+    if another < n {
+        return Verdict {
+            ground: 24,
+            at: another,
         };
     }
     Verdict { ground: 0, at: 0 }
