@@ -10,7 +10,7 @@ pub struct Verdict {
     pub at: usize,
 }
 
-// Where a byte stands among the fourteen that mean something: the brackets, each closing one behind its opening one, then the unpaired marks.
+// Where a byte stands among the fourteen that are not refused: the brackets, each closing one behind its opening one, and the unpaired marks.
 fn rank(byte: u8) -> usize {
     find(b"()<>[]{}.,:_-~", 0, byte, byte)
 }
@@ -99,7 +99,8 @@ fn deeper_before(depth: usize, byte: u8) -> usize {
     depth
 }
 
-// The bracket that the closing one at a byte closes: going backwards from it, none is left to be opened. One that closes nothing is answered itself.
+// The byte of the bracket that the closing one at a byte closes: there, going backwards, none is left to be opened. Its own byte if it closes
+// nothing.
 pub fn partner(s: &[u8], at: usize) -> usize {
     let mut depth = 1;
     for j in 0..at {

@@ -1,10 +1,13 @@
-// The groups of random cases.
+// The groups of random cases, and all texts of a length.
 use test_nudges::moves::print_moves;
 use test_nudges::nudges;
 use test_random::stretches::stretches;
 use test_random::tally::Count;
 use test_random::tally::print_count;
 use test_random::tally::print_seen;
+use test_random::tally::with_counts;
+use test_random::texts::all_bytes;
+use test_random::texts::all_two_bytes;
 use test_random::texts::texts;
 use test_sessions::sessions;
 use test_words::Text;
@@ -62,4 +65,12 @@ pub fn random(s: &[u8], at: usize) -> Text {
         return random_nudges(number(s, cases), number(s, seed));
     }
     random_sessions(number(s, cases), number(s, seed))
+}
+
+// every LENGTH: all texts of one byte, or of two.
+pub fn every(s: &[u8], at: usize) -> Text {
+    if number(s, at) == 1 {
+        return with_counts(blank(), all_bytes());
+    }
+    with_counts(blank(), all_two_bytes())
 }

@@ -1,4 +1,5 @@
 // The words that name the calls.
+use super::groups::every;
 use super::groups::random;
 use chain::Session;
 use test_calls::changes::Done;
@@ -20,6 +21,33 @@ use test_words::line::word;
 use test_words::with_bytes;
 ghost use Rattle.chain.specs.View.{Sound};
 
+// A call that takes no session.
+fn on_none(s: &[u8], at: usize) -> Text {
+    let args = next(s, at);
+    if check::same(word(s, at), b"stretch") {
+        return views::stretch(s, args);
+    }
+    if check::same(word(s, at), b"read") {
+        return views::read(s, args);
+    }
+    if check::same(word(s, at), b"report") {
+        return report(s, args);
+    }
+    if check::same(word(s, at), b"exported") {
+        return exported(s, args);
+    }
+    if check::same(word(s, at), b"random") {
+        return random(s, args);
+    }
+    if check::same(word(s, at), b"every") {
+        return every(s, args);
+    }
+    if check::same(word(s, at), b"example") {
+        return example::run();
+    }
+    with_bytes(blank(), b"no such call")
+}
+
 // A call that changes no session. The session's two texts stand at a place of their own.
 fn looking(session: Session, s: &[u8], at: usize, texts: usize) -> Text
     requires { ⌜ Sound session ⌝ }
@@ -40,25 +68,7 @@ fn looking(session: Session, s: &[u8], at: usize, texts: usize) -> Text
     if check::same(word(s, at), b"redeal") {
         return views::redeal(session, s, texts);
     }
-    if check::same(word(s, at), b"stretch") {
-        return views::stretch(s, args);
-    }
-    if check::same(word(s, at), b"read") {
-        return views::read(s, args);
-    }
-    if check::same(word(s, at), b"report") {
-        return report(s, args);
-    }
-    if check::same(word(s, at), b"exported") {
-        return exported(s, args);
-    }
-    if check::same(word(s, at), b"random") {
-        return random(s, args);
-    }
-    if check::same(word(s, at), b"example") {
-        return example::run();
-    }
-    with_bytes(blank(), b"no such call")
+    on_none(s, at)
 }
 
 // Whether the call hands over a session of its own.

@@ -1,6 +1,15 @@
 // Random texts.
 use super::draw;
+use super::letters::any;
+use super::letters::closing;
+use super::letters::closing_of;
+use super::letters::mark;
+use super::letters::opening;
+use test_brute::texts::closes;
 use test_brute::texts::deeper;
+use test_brute::texts::opens;
+use test_brute::texts::partner;
+use test_words::plain::part;
 
 // A text of at most 12 bytes.
 pub struct Sample {
@@ -8,7 +17,15 @@ pub struct Sample {
     pub bytes: [u8; 12],
 }
 
-fn with_letter(s: Sample, byte: u8) -> Sample {
+pub fn empty() -> Sample {
+    Sample {
+        len: 0,
+        bytes: [0; 12],
+    }
+}
+
+// The text with a byte more.
+pub fn with_letter(s: Sample, byte: u8) -> Sample {
     let at = s.len;
     let mut next = s;
     if at < 12 {
@@ -18,11 +35,17 @@ fn with_letter(s: Sample, byte: u8) -> Sample {
     next
 }
 
-fn empty() -> Sample {
-    Sample {
-        len: 0,
-        bytes: [0; 12],
+fn letter_at(s: Sample, k: usize) -> u8 {
+    if k < 12 { s.bytes[k] } else { 0 }
+}
+
+// The text with another byte at a place.
+fn with_letter_at(s: Sample, k: usize, byte: u8) -> Sample {
+    let mut next = s;
+    if k < 12 {
+        next.bytes[k] = byte;
     }
+    next
 }
 
 // The next byte of a structure of which so many brackets are open and so many bytes are left to come.
@@ -46,8 +69,8 @@ fn letter(state: &mut u64, depth: usize, left: usize) -> u8 {
     b')'
 }
 
-// A random structure of 0 to 10 bytes.
-pub fn structure(state: &mut u64) -> Sample {
+// A random structure of 0 to 10 bytes, in dots and round brackets.
+fn plain_structure(state: &mut u64) -> Sample {
     let len = draw(state, 11);
     let mut s = empty();
     let mut depth = 0;
@@ -59,21 +82,76 @@ pub fn structure(state: &mut u64) -> Sample {
     s
 }
 
+// The bracket that a closing one closes.
+fn opened_by(bytes: [u8; 12], n: usize, k: usize) -> usize {
+    partner(part(&bytes, 0, n), k)
+}
+
+// Another byte for the one at a place: any unpaired mark, any opening bracket, or the closing bracket of the one that it closes.
+fn another(s: Sample, k: usize, state: &mut u64) -> u8 {
+    let byte = letter_at(s, k);
+    if opens(byte) {
+        return opening(state);
+    }
+    if closes(byte) {
+        let bytes = s.bytes;
+        return closing_of(letter_at(s, opened_by(bytes, s.len, k)));
+    }
+    mark(state)
+}
+
+// The same structure in other marks and other kinds of brackets. They are drawn apart, so that nothing else that is drawn hangs on them.
+pub fn respelled(structure: Sample, seed: u64) -> Sample {
+    let mut state = seed / 2;
+    let mut s = structure;
+    for k in 0..structure.len {
+        s = with_letter_at(s, k, another(s, k, &mut state));
+    }
+    s
+}
+
+// A random structure of 0 to 10 bytes.
+pub fn structure(state: &mut u64) -> Sample {
+    let plain = plain_structure(state);
+    respelled(plain, *state)
+}
+
+// A closing bracket stays one: every third time it is of any kind.
+fn with_flaw_at(s: Sample, k: usize, state: &mut u64) -> Sample {
+    if !closes(letter_at(s, k)) {
+        return s;
+    }
+    if 0 < draw(state, 3) {
+        return s;
+    }
+    with_letter_at(s, k, closing(state))
+}
+
+fn with_flaws(structure: Sample, state: &mut u64) -> Sample {
+    let mut s = structure;
+    for k in 0..structure.len {
+        s = with_flaw_at(s, k, state);
+    }
+    s
+}
+
+// A structure some of whose closing brackets are of any kind; one byte of every third is any.
+pub fn flawed(state: &mut u64) -> Sample {
+    let whole = structure(state);
+    let s = with_flaws(whole, state);
+    if 0 < draw(state, 3) {
+        return s;
+    }
+    let at = draw(state, s.len);
+    with_letter_at(s, at, any(state))
+}
+
 // A random text of 0 to 10 bytes, structure or not.
 pub fn scrawl(state: &mut u64) -> Sample {
     let len = draw(state, 11);
     let mut s = empty();
     for _ in 0..len {
-        let pick = draw(state, 19);
-        if pick < 6 {
-            s = with_letter(s, b'.');
-        } else if pick < 12 {
-            s = with_letter(s, b'(');
-        } else if pick < 18 {
-            s = with_letter(s, b')');
-        } else {
-            s = with_letter(s, b'x');
-        }
+        s = with_letter(s, any(state));
     }
     s
 }

@@ -8,10 +8,13 @@ use test_words::print;
 use test_words::with_bytes;
 use test_words::with_number;
 
+// One more than the highest number of a ground.
+const GROUNDS: usize = 25;
+
 // Calls accepted, calls refused by ground, and those that are not answered as they must be.
 pub struct Count {
     pub accepted: usize,
-    pub by_ground: [usize; 23],
+    pub by_ground: [usize; GROUNDS],
     pub wrong: usize,
 }
 
@@ -35,7 +38,7 @@ pub struct Counts {
 pub fn none() -> Count {
     Count {
         accepted: 0,
-        by_ground: [0; 23],
+        by_ground: [0; GROUNDS],
         wrong: 0,
     }
 }
@@ -71,7 +74,7 @@ pub fn counted(c: Count, ground: usize, right: bool) -> Count {
     if ground == 0 {
         next.accepted = more(c.accepted);
     }
-    if ground < 23 {
+    if ground < GROUNDS {
         let before = c.by_ground[ground];
         next.by_ground[ground] = more(before);
     }
@@ -108,7 +111,11 @@ pub fn with_areas(s: Seen, n: usize) -> Seen {
 }
 
 fn refused(c: Count, ground: usize) -> usize {
-    if ground < 23 { c.by_ground[ground] } else { 0 }
+    if ground < GROUNDS {
+        c.by_ground[ground]
+    } else {
+        0
+    }
 }
 
 // A number of what was counted, in a line.
@@ -118,7 +125,7 @@ pub fn with_count(t: Text, n: usize, what: &[u8]) -> Text {
 
 fn with_refused(t: Text, c: Count) -> Text {
     let mut next = t;
-    for ground in 1..23 {
+    for ground in 1..GROUNDS {
         let n = refused(c, ground);
         if 0 < n {
             next = with_count(with_bytes(next, b", "), n, b" refused on ");
@@ -128,11 +135,17 @@ fn with_refused(t: Text, c: Count) -> Text {
     next
 }
 
-// A line with what was counted of a group.
-pub fn print_count(group: &[u8], c: Count) {
-    let accepted = with_count(with_bytes(blank(), group), c.accepted, b" accepted");
+// What was counted of a group.
+pub fn with_counts(t: Text, c: Count) -> Text {
+    let accepted = with_count(t, c.accepted, b" accepted");
     let refused = with_refused(accepted, c);
-    print(with_count(with_bytes(refused, b", "), c.wrong, b" wrong\n"));
+    with_count(with_bytes(refused, b", "), c.wrong, b" wrong")
+}
+
+// The same in a line.
+pub fn print_count(group: &[u8], c: Count) {
+    let line = with_counts(with_bytes(blank(), group), c);
+    print(with_bytes(line, b"\n"));
 }
 
 // A line with what else was counted.

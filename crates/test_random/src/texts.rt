@@ -1,7 +1,10 @@
-// Random texts, held to grounds 1 to 4 and to the leftmost leaves of their trees.
+// Random texts, and all texts of one byte and of two, held to grounds 1 to 4 and 24 and to the leftmost leaves of their trees.
 use super::samples::Sample;
+use super::samples::empty;
+use super::samples::flawed;
 use super::samples::scrawl;
 use super::samples::structure;
+use super::samples::with_letter;
 use super::tally::Count;
 use super::tally::counted;
 use super::tally::none;
@@ -14,6 +17,7 @@ use test_words::answers::ground_of;
 use test_words::answers::kind_of;
 use test_words::answers::place_of;
 use test_words::plain::part;
+use test_words::plain::small;
 use test_words::plain::wide;
 
 // Whether a tree that was read has these nodes.
@@ -56,10 +60,13 @@ fn read_right(s: &[u8]) -> bool {
     tree.n == 2
 }
 
-// One random text: every other one is a structure.
+// One random text: every other one is a structure, and of the others every other one a flawed one.
 fn text(state: &mut u64, k: usize) -> Sample {
-    if k % 2 == 0 {
+    if k % 4 == 0 {
         return scrawl(state);
+    }
+    if k % 4 == 2 {
+        return flawed(state);
     }
     structure(state)
 }
@@ -88,6 +95,33 @@ pub fn texts(cases: usize, seed: u64) -> Count {
     for k in 0..cases {
         let sample = text(&mut state, k);
         count = one(count, sample);
+    }
+    count
+}
+
+// All texts of one byte.
+pub fn all_bytes() -> Count {
+    let mut count = none();
+    for a in 0..256 {
+        count = one(count, with_letter(empty(), small(a)));
+    }
+    count
+}
+
+// All texts of two bytes that begin with one.
+fn all_behind(count: Count, first: Sample) -> Count {
+    let mut next = count;
+    for b in 0..256 {
+        next = one(next, with_letter(first, small(b)));
+    }
+    next
+}
+
+// All texts of two bytes.
+pub fn all_two_bytes() -> Count {
+    let mut count = none();
+    for a in 0..256 {
+        count = all_behind(count, with_letter(empty(), small(a)));
     }
     count
 }

@@ -14,6 +14,7 @@ use test_brute::seeds::Trees;
 use test_brute::table::no_seeds;
 use test_random::draw;
 use test_random::samples::Sample;
+use test_random::samples::respelled;
 use test_random::samples::structure;
 use test_random::tally::Counts;
 use test_random::tally::marked;
@@ -122,10 +123,10 @@ fn one(q: Sample, t: Sample, state: &mut u64, counts: Counts) -> Counts {
     next
 }
 
-// The second structure: half the time the first again.
+// The second structure: half the time the first again, in other characters.
 pub fn other(q: Sample, state: &mut u64) -> Sample {
     if draw(state, 2) == 0 {
-        return q;
+        return respelled(q, *state);
     }
     structure(state)
 }
