@@ -1,4 +1,4 @@
-// Grounds 1 to 4 and 24 of a text of any bytes.
+// Grounds 1 to 4 and 24 of a text of any bytes (document 02, b).
 use test_words::plain::byte_at;
 use test_words::plain::find;
 use test_words::plain::less;

@@ -22,7 +22,7 @@ use test_words::with_bytes;
 ghost use Rattle.chain.specs.View.{Sound};
 
 // A call that takes no session.
-fn on_none(s: &[u8], at: usize) -> Text {
+fn without_session(s: &[u8], at: usize) -> Text {
     let args = next(s, at);
     if check::same(word(s, at), b"stretch") {
         return views::stretch(s, args);
@@ -68,7 +68,7 @@ fn looking(session: Session, s: &[u8], at: usize, texts: usize) -> Text
     if check::same(word(s, at), b"redeal") {
         return views::redeal(session, s, texts);
     }
-    on_none(s, at)
+    without_session(s, at)
 }
 
 // Whether the call hands over a session of its own.

@@ -116,7 +116,7 @@ pub fn structure(state: &mut u64) -> Sample {
     respelled(plain, *state)
 }
 
-// A closing bracket stays one: every third time it is of any kind.
+// A closing bracket at a place becomes, one time in three, one of any kind.
 fn with_flaw_at(s: Sample, k: usize, state: &mut u64) -> Sample {
     if !closes(letter_at(s, k)) {
         return s;

@@ -9,9 +9,11 @@ use super::tally::Count;
 use super::tally::counted;
 use super::tally::none;
 use super::tally::print_sample;
+use answer::Answer;
 use test_brute::nodes::Nodes;
 use test_brute::nodes::leftmost;
 use test_brute::nodes::nodes_of;
+use test_brute::texts::Verdict;
 use test_brute::texts::judge;
 use test_words::answers::ground_of;
 use test_words::answers::kind_of;
@@ -39,25 +41,41 @@ fn kind_asked(ground: usize) -> u8 {
     if ground == 0 { b'-' } else { b'Q' }
 }
 
-fn read_right(s: &[u8]) -> bool {
-    let r = tree::read(s);
-    let tree = r.tree;
-    let answer = r.answer;
-    let v = judge(s);
+// Whether an answer is what a verdict asks for.
+fn is_answer(answer: Answer, v: Verdict) -> bool {
     if ground_of(answer) != v.ground {
         return false;
     }
     if kind_of(answer) != kind_asked(v.ground) {
         return false;
     }
-    if place_of(answer) != v.at {
+    place_of(answer) == v.at
+}
+
+// Whether a text that is refused is so in the calls on a stretch too, with no part of it handed back.
+fn stretch_refused(s: &[u8], v: Verdict) -> bool {
+    if !is_answer(stretch::check(s, 0, 0), v) {
+        return false;
+    }
+    stretch::part(s, 0, 0).len() == 0
+}
+
+fn read_right(s: &[u8]) -> bool {
+    let r = tree::read(s);
+    let tree = r.tree;
+    let answer = r.answer;
+    let v = judge(s);
+    if !is_answer(answer, v) {
         return false;
     }
     if v.ground == 0 {
         let left = tree.left;
         return is_tree_of(tree.n, left, nodes_of(s));
     }
-    tree.n == 2
+    if tree.n != 2 {
+        return false;
+    }
+    stretch_refused(s, v)
 }
 
 // One random text: every other one is a structure, and of the others every other one a flawed one.
