@@ -1,5 +1,5 @@
--- The starred examples of document 01, and those of a text without structure (document 02, f), as rows of one list: what the definitions give, and what
--- the documents say.
+-- The starred examples of document 01, those of a text without structure (document 02, f) and of WUSS characters (document 02, b), as rows of one list: what
+-- the definitions give, and what the documents say.
 use mathlib.Core.Path.{_≡_}
 use mathlib.Core.Bool.{Bool, true, false, cond}
 use mathlib.Core.List.{List, [], _∷_}
@@ -7,10 +7,10 @@ use Prim.Native.Nat.{ℕ, zero, suc}
 use lib.IntN.{pos, negsuc}
 use Rattle.answer.specs.Answer.{Said, said}
 use Rattle.answer.specs.Answer.Said.{accepted, refused}
-use Rattle.answer.specs.declared.Place.the-variants.{Seed}
+use Rattle.answer.specs.declared.Place.the-variants.{ByteInQ, ByteInT, Seed}
 use Rattle.write.specs.Decimal.{bytes}
 use Rattle.tree.specs.Reading.{leavesOf}
-use Rattle.stretch.specs.Stretch.{partOf}
+use Rattle.stretch.specs.Stretch.{checkOf, partOf}
 use Rattle.seed.specs.Seed.{qs, ts}
 use Rattle.seed.specs.Tests.{paired}
 use Rattle.seed.specs.AreaList.{bytesOf}
@@ -139,6 +139,42 @@ onEmptyText =
     ∷ lists (bytesOf (areasOf (doing (onEmptyAnd (bytes "(.)")) (add (one 0 2) (pos 0))) 1)) []
     -- A refused opening hands over the trees of `.` all the same.
     ∷ lists (leavesOf (opening [] (bytes "(") .state .q)) (0 ∷ 0 ∷ [])
+    ∷ []
+
+-- A text with all six unpaired characters and two kinds of brackets; A and B in other characters.
+abbrev pub W : List ℕ
+W = bytes "<<<___>>>,,(((...)))::~~--"
+
+abbrev pub onOther : State
+onOther = opening (bytes "[:{_}]~") (bytes "<->(,)") .state
+
+-- What the opening on a text says, with `.` as T.
+abbrev pub readingSays : List ℕ → Said
+readingSays q = said (opening q (bytes ".") .answer)
+
+abbrev pub inWuss : List Example
+inWuss =
+    says (readingSays (bytes "(<)")) (refused 4 (ByteInQ 0))
+    ∷ says (readingSays (bytes "<)")) (refused 24 (ByteInQ 1))
+    ∷ says (readingSays (bytes "(]")) (refused 24 (ByteInQ 1))
+    ∷ says (readingSays (bytes "[(])")) (refused 24 (ByteInQ 2))
+    ∷ says (readingSays (bytes "<(>)a")) (refused 2 (ByteInQ 4))
+    ∷ says (readingSays (bytes ")<")) (refused 3 (ByteInQ 0))
+    -- Q is judged by 24 before T is looked at.
+    ∷ says (said (opening (bytes "<)") (bytes "(") .answer)) (refused 24 (ByteInQ 1))
+    ∷ says (said (opening (bytes "()") (bytes "[>") .answer)) (refused 24 (ByteInT 1))
+    ∷ says (said (checkOf (bytes "<)") 0 0)) (refused 24 (ByteInQ 1))
+    -- The stretches of a text are its own bytes.
+    ∷ says (readingSays W) accepted
+    ∷ lists (partOf W 0 5) (bytes "<<<___>>>")
+    ∷ lists (partOf W 0 2) (bytes "___")
+    ∷ lists (partOf W 6 13) (bytes ",,(((...)))")
+    ∷ lists (partOf W 14 19) (bytes "::~~--")
+    ∷ lists (partOf W 0 19) W
+    -- The same nodes as A and B, and the same best chain.
+    ∷ lists (leavesOf (onOther .q)) (leavesOf (onAB .q))
+    ∷ lists (leavesOf (onOther .t)) (leavesOf (onAB .t))
+    ∷ lists (totalAndChain (doing (doing onOther (add (one 2 1) (pos 3))) (add (one 4 3) (pos 2)))) (5 ∷ 1 ∷ 2 ∷ [])
     ∷ []
 
 -- Each holds: the two are the same.

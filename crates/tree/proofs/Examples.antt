@@ -1,11 +1,13 @@
 -- Document 01's two structures and texts at the grounds' edges, computed from the definitions.
 use mathlib.Core.Path.{_≡_, refl}
+use mathlib.Core.Bool.{cond}
 use mathlib.Core.List.{List, [], _∷_, _++_, map}
-use Prim.Native.Nat.{ℕ}
+use Prim.Native.Nat.{ℕ, zero, suc}
 use lib.ListN.{replicate}
+use lib.Dec.{eqb}
 use Rattle.answer.specs.Answer.{Said, said}
 use Rattle.answer.specs.Answer.Said.{accepted, refused}
-use Rattle.answer.specs.declared.Place.the-variants.{ByteInQ}
+use Rattle.answer.specs.declared.Place.the-variants.{ByteInQ, ByteInT, Seed, Nothing}
 use Rattle.character.specs.Character.{meaningOf}
 use Rattle.tree.specs.Run.{lefts}
 use Rattle.tree.specs.Reading.{Reading, badLength, reading, textAnswer}
@@ -56,7 +58,43 @@ rows =
     ∷ row (40 ∷ []) (refused 4 (ByteInQ 0))
     ∷ row (40 ∷ 40 ∷ 41 ∷ []) (refused 4 (ByteInQ 0))
     ∷ row (40 ∷ 41 ∷ 40 ∷ []) (refused 4 (ByteInQ 2))
+    -- `(<)`, `<)`, `(]`, `[(])`, `<(>)a` and `)<`; two closing brackets of another kind; 24 at the last byte of 254, and behind 3 and 4.
+    ∷ row (40 ∷ 60 ∷ 41 ∷ []) (refused 4 (ByteInQ 0))
+    ∷ row (60 ∷ 41 ∷ []) (refused 24 (ByteInQ 1))
+    ∷ row (40 ∷ 93 ∷ []) (refused 24 (ByteInQ 1))
+    ∷ row (91 ∷ 40 ∷ 93 ∷ 41 ∷ []) (refused 24 (ByteInQ 2))
+    ∷ row (60 ∷ 40 ∷ 62 ∷ 41 ∷ 97 ∷ []) (refused 2 (ByteInQ 4))
+    ∷ row (41 ∷ 60 ∷ []) (refused 3 (ByteInQ 0))
+    ∷ row (123 ∷ 125 ∷ 60 ∷ 93 ∷ 91 ∷ 62 ∷ []) (refused 24 (ByteInQ 3))
+    ∷ row (123 ∷ copies 126 91 ++ copies 126 93 ++ 62 ∷ []) (refused 24 (ByteInQ 253))
+    ∷ row (60 ∷ 41 ∷ 41 ∷ []) (refused 3 (ByteInQ 2))
+    ∷ row (60 ∷ 41 ∷ 40 ∷ []) (refused 4 (ByteInQ 2))
     ∷ []
+
+-- The texts of one byte, by what is said of each: 6 are accepted, 242 are 2 at byte 0, 4 are 3 and 4 are 4.
+abbrev numbers : ℕ → ℕ → List ℕ
+numbers n zero = []
+numbers n (suc more) = n ∷ numbers (suc n) more
+
+-- A ground at byte 0 by its number, 0 if none is given, and 99 for any other.
+abbrev groundAtFirst : Said → ℕ
+groundAtFirst accepted = 0
+groundAtFirst (refused n (ByteInQ zero)) = n
+groundAtFirst (refused n (ByteInQ (suc k))) = 99
+groundAtFirst (refused n (ByteInT k)) = 99
+groundAtFirst (refused n (Seed k)) = 99
+groundAtFirst (refused n Nothing) = 99
+
+abbrev howMany : ℕ → List ℕ → ℕ
+howMany n [] = 0
+howMany n (x ∷ l) = cond (eqb x n) (suc (howMany n l)) (howMany n l)
+
+abbrev alone : List ℕ
+alone = map (λ (b : ℕ). groundAtFirst (said (textAnswer (reading (b ∷ []))))) (numbers 0 256)
+
+one-byte : map (λ (n : ℕ). howMany n alone) (0 ∷ 2 ∷ 3 ∷ 4 ∷ []) ≡ 6 ∷ 242 ∷ 4 ∷ 4 ∷ []
+unfolding reading badLength meaningOf
+one-byte = refl
 
 texts : map (λ (x : Row). said (textAnswer (reading (x .text)))) rows ≡ map (λ (x : Row). x .says) rows
 unfolding row rows reading badLength meaningOf
