@@ -1,6 +1,6 @@
 -- A text written in dot-bracket form, byte by byte, and what is read of it.
 use mathlib.Core.Path.{_≡_, refl, sym, ap, ap₂, subst, _∙_}
-use mathlib.Core.Bool.{true, false}
+use mathlib.Core.Bool.{true, false, _&&_, false≢true}
 use Prim.Native.Nat.{ℕ, suc, _+_, _-_, _≤_, _<_}
 use native.Mathlib.Omega.{arith}
 use native.Mathlib.Nat.{sub-zero}
@@ -8,10 +8,10 @@ use native.Mathlib.Numerals.{add-one}
 use mathlib.Core.List.{List, [], _∷_, _++_, map-append}
 use lib.ListN.{length, getD, take, drop, set, length-set}
 use lib.Seq.{take-all, take-suc, take-suc-set}
-use borrow.Author.Tests.{lt-ltb, le-ltb}
+use lib.Dec.{ltb}
+use borrow.Author.Tests.{le-ltb}
 use Rattle.answer.specs.declared.Ground.the-variants.{UnknownByte, ClosesOtherKind}
-use Rattle.answer.specs.declared.Answer.the-variants.{Accepted}
-use Rattle.answer.proofs.Denied.{denies}
+use Rattle.answer.specs.Answer.{isAccepted}
 use Rattle.character.specs.Character.{roleOf}
 use Rattle.character.specs.declared.Role.{Role}
 use Rattle.tree.specs.Reading.{Reading, readOf, firstRefused, blindReading, firstOtherKind, withKinds}
@@ -93,24 +93,17 @@ module _ (s array : List ℕ) (short : length s ≤ 255) (whole : take (length s
     is-blind = read ∙ ap (λ (l : List ℕ). readOf (blindReading l)) is ∙ form-blind s
 
     -- A refusal stays, and an acceptance waits for the kinds.
-    pub written-stops : (x .answer ≡ Accepted → ⊥) → x ≡ readOf (withKinds s (blindReading s))
-    written-stops denied = go (blindReading s) is-blind
-      where
-        go : (y : Reading) → x ≡ readOf y → x ≡ readOf (withKinds s y)
-        go (textAccepted r) e = absurd (denied (ap (λ (t : TreeRead). t .answer) e))
-        go (textRefused g k) e = e
-
-    module _ (ok : x .answer ≡ Accepted) (o : ℕ) (other : o ≡ firstOtherKind s []) where
-      pub written-other : o < length s → readOf (textRefused ClosesOtherKind o) ≡ readOf (withKinds s (blindReading s))
-      written-other h = go (blindReading s) is-blind
+    module _ (o : ℕ) (other : o ≡ firstOtherKind s []) where
+      pub written-other : (isAccepted (x .answer) && ltb o (length s)) ≡ true → readOf (textRefused ClosesOtherKind o) ≡ readOf (withKinds s (blindReading s))
+      written-other h = go (blindReading s) (ap (λ (t : TreeRead). t .answer) is-blind)
         where
-          go : (y : Reading) → x ≡ readOf y → readOf (textRefused ClosesOtherKind o) ≡ readOf (withKinds s y)
-          go (textAccepted r) e = rw (← other, lt-ltb o (length s) h)
-          go (textRefused g k) e = absurd (denies (ap (λ (t : TreeRead). t .answer) e) ok)
+          go : (y : Reading) → x .answer ≡ readOf y .answer → readOf (textRefused ClosesOtherKind o) ≡ readOf (withKinds s y)
+          go (textAccepted r) e = rw (← other, rw e at h)
+          go (textRefused g k) e = absurd (false≢true (rw e at h))
 
-      pub written-read : length s ≤ o → x ≡ readOf (withKinds s (blindReading s))
+      pub written-read : (isAccepted (x .answer) && ltb o (length s)) ≡ false → x ≡ readOf (withKinds s (blindReading s))
       written-read h = go (blindReading s) is-blind
         where
           go : (y : Reading) → x ≡ readOf y → x ≡ readOf (withKinds s y)
-          go (textAccepted r) e = rw (← other, le-ltb o (length s) h) e
+          go (textAccepted r) e = rw (← other, rw (ap (λ (t : TreeRead). t .answer) e) at h) e
           go (textRefused g k) e = e

@@ -15,8 +15,11 @@ use kinds::first_other_kind;
 use run::read_run;
 use unknown::first_refused;
 ghost use mathlib.Core.Path.{_≡_};
+ghost use mathlib.Core.Bool.{_&&_};
 ghost use Prim.Native.Nat.{_≤_};
 ghost use lib.ListN.{length};
+ghost use lib.Dec.{ltb};
+ghost use Rattle.answer.specs.Answer.{isAccepted};
 ghost use Rattle.tree.specs.Reading.{Reading, badLength, blindReading, withKinds, reading, readOf, treeOf, single};
 ghost use Rattle.tree.specs.inner.Building.{Known};
 
@@ -77,6 +80,16 @@ fn read_known(text: &[u8]) -> TreeRead
     }
 }
 
+// Whether ground 24 is given, at the byte `other` of a text: it comes after 3 and 4.
+fn kinds_refused(answer: Answer, other: usize, len: usize) -> bool
+    ensures { λ r. ⌜ r ≡ (isAccepted answer && ltb other len) ⌝ }
+{
+    match answer {
+        Answer::Accepted => other < len,
+        _ => false,
+    }
+}
+
 // The same of any text, or grounds 2, 3 and 4 and then 24: it is read in dot-bracket form, which has its roles and not its kinds.
 fn read_written(text: &[u8]) -> TreeRead
     requires { ⌜ length (now text) ≤ 255 ⌝ }
@@ -90,12 +103,8 @@ fn read_written(text: &[u8]) -> TreeRead
     }
     let read = read_known(written);
     let answer = read.answer;
-    match answer {
-        Answer::Accepted => {}
-        _ => return read,
-    }
     let other = first_other_kind(text, written);
-    if other < len {
+    if kinds_refused(answer, other, len) {
         return refused(Ground::ClosesOtherKind, other);
     }
     read

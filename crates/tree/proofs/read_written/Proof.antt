@@ -2,8 +2,7 @@
 use mathlib.Core.Path.{sym, _∙_}
 use borrow.Author.Needs.{needs}
 use borrow.Author.Tests.{not-true, not-false}
-use Rattle.answer.proofs.Denied.{denies}
-use Rattle.tree.proofs.Written.{formed, written-refused, written-known, written-stops, written-other, written-read}
+use Rattle.tree.proofs.Written.{formed, written-refused, written-known, written-other, written-read}
 use Rattle.tree.proofs.read_written.Statement.{statement}
 use Rattle.tree.proofs.read_written.Tie as tie
 
@@ -41,39 +40,30 @@ read-known-requires c κs =
     let start = form .before .before in
     written-known (start .args .text .now) _ (start .pre) (form .dot-bracket .ensures) (sym (c .before .all-dots .ensures) ∙ not-false _ (c .if1 .left))
 
-enum-told : tie.Need-enum-told
-enum-told c = search needs
-
-enum-told-2 : tie.Need-enum-told-2
-enum-told-2 c = search needs
-
-returns-2 : tie.Need-returns-2
-returns-2 c =
-    let form = c .before .before .before .before .before .before .before in
-    let start = form .before .before in
-    written-stops (start .args .text .now) _ (start .pre) (form .dot-bracket .ensures) _ (c .before .before .read-known .ensures) (denies (c .enum-told2 .given .1))
-
 first-other-kind-requires : tie.Need-first-other-kind-requires
 first-other-kind-requires c κs =
-    let form = c .before .before .before .before .before .before .before in
+    let form = c .before .before .before .before .before in
     let start = form .before .before in
     formed (start .args .text .now) _ (start .pre) (form .dot-bracket .ensures)
+
+kinds-refused-requires : tie.Need-kinds-refused-requires
+kinds-refused-requires c κs = search needs
 
 refused-requires-2 : tie.Need-refused-requires-2
 refused-requires-2 c κs = search needs
 
-returns-3 : tie.Need-returns-3
-returns-3 c =
-    let form = c .before .before .before .before .before .before .before .before .before .before in
-    let start = form .before .before in
-    c .refused2 .ensures
-    ∙ written-other (start .args .text .now) _ (start .pre) (form .dot-bracket .ensures) _ (c .before .before .before .before .before .read-known .ensures) (c .before .before .before .enum-told .given .1) _ (c .before .before .first-other-kind .ensures) (c .before .if2 .taken)
-
-returns-4 : tie.Need-returns-4
-returns-4 c =
+returns-2 : tie.Need-returns-2
+returns-2 c =
     let form = c .before .before .before .before .before .before .before .before .before in
     let start = form .before .before in
-    written-read (start .args .text .now) _ (start .pre) (form .dot-bracket .ensures) _ (c .before .before .before .before .read-known .ensures) (c .before .before .enum-told .given .1) _ (c .before .first-other-kind .ensures) (c .if2 .left)
+    c .refused2 .ensures
+    ∙ written-other (start .args .text .now) _ (start .pre) (form .dot-bracket .ensures) _ (c .before .before .before .before .read-known .ensures) _ (c .before .before .before .first-other-kind .ensures) (sym (c .before .before .kinds-refused .ensures) ∙ c .before .if2 .taken)
+
+returns-3 : tie.Need-returns-3
+returns-3 c =
+    let form = c .before .before .before .before .before .before .before .before in
+    let start = form .before .before in
+    written-read (start .args .text .now) _ (start .pre) (form .dot-bracket .ensures) _ (c .before .before .before .read-known .ensures) _ (c .before .before .first-other-kind .ensures) (sym (c .before .kinds-refused .ensures) ∙ c .if2 .left)
 
 pub read-written-spec : {M : Type 1} → statement M
 read-written-spec =
@@ -88,10 +78,8 @@ read-written-spec =
     refused-requires
     returns
     read-known-requires
-    enum-told
-    enum-told-2
-    returns-2
     first-other-kind-requires
+    kinds-refused-requires
     refused-requires-2
-    returns-3
-    returns-4)
+    returns-2
+    returns-3)
