@@ -21,7 +21,7 @@ use Rattle.tree.specs.Run.Run.{end, dot, pair}
 use Rattle.tree.specs.Reading.{Runs, first, onto, runs, orNext, firstRefused, groundAt, stopped, blindReading, passKind, firstOtherKind, Reading, readOf, treeOf}
 use Rattle.tree.specs.Reading.Runs.{last, more}
 use Rattle.tree.specs.Reading.Reading.{textAccepted, textRefused}
-use Rattle.tree.specs.inner.DotBracket.{ReadAsDot, InDotBracket, isDot, allDots, isAmong, dotByte, dotBracketOf}
+use Rattle.tree.specs.inner.DotBracket.{SameRole, SameRoles, isDotBracket, inDotBracket, isAmong, formByte, dotBracketOf}
 use Rattle.tree.specs.declared.Tree.{Tree}
 
 and-assoc : (a b c : Bool) → (a && (b && c)) ≡ ((a && b) && c)
@@ -34,23 +34,23 @@ and-true false = refl
 
 -- The look whether every byte is a dot or a round bracket: what it has found up to i, and what the rest has.
 pub record DotsTo (s : List ℕ) (i : ℕ) (all : Bool) : Type 0 where
-  pub is : allDots s ≡ (all && allDots (drop i s))
+  pub is : inDotBracket s ≡ (all && inDotBracket (drop i s))
 
 pub dots-start : (s : List ℕ) → DotsTo s 0 true
 dots-start s = record { is = refl }
 
-pub dots-turn : (s : List ℕ) (i : ℕ) {all k r : Bool} → i < length s → DotsTo s i all → k ≡ isDot (getD s i 0) → r ≡ (all && k) → DotsTo s (i + 1) r
+pub dots-turn : (s : List ℕ) (i : ℕ) {all k r : Bool} → i < length s → DotsTo s i all → k ≡ isDotBracket (getD s i 0) → r ≡ (all && k) → DotsTo s (i + 1) r
 dots-turn s i {all} {k} lt h f g =
     record {
       is = h .is
-          ∙ ap (λ (x : List ℕ). all && allDots x) (drop-cons s i 0 lt)
-          ∙ ap₂ (λ (b : Bool) (j : ℕ). all && (b && allDots (drop j s))) (sym f) (sym (add-one i))
-          ∙ and-assoc all k (allDots (drop (i + 1) s))
-          ∙ ap (λ (b : Bool). b && allDots (drop (i + 1) s)) (sym g);
+          ∙ ap (λ (x : List ℕ). all && inDotBracket x) (drop-cons s i 0 lt)
+          ∙ ap₂ (λ (b : Bool) (j : ℕ). all && (b && inDotBracket (drop j s))) (sym f) (sym (add-one i))
+          ∙ and-assoc all k (inDotBracket (drop (i + 1) s))
+          ∙ ap (λ (b : Bool). b && inDotBracket (drop (i + 1) s)) (sym g);
     }
 
-pub dots-end : (s : List ℕ) (i : ℕ) {all : Bool} → length s ≤ i → DotsTo s i all → all ≡ allDots s
-dots-end s i {all} l h = sym (h .is ∙ ap (λ (x : List ℕ). all && allDots x) (drop-of-length-le s l) ∙ and-true all)
+pub dots-end : (s : List ℕ) (i : ℕ) {all : Bool} → length s ≤ i → DotsTo s i all → all ≡ inDotBracket s
+dots-end s i {all} l h = sym (h .is ∙ ap (λ (x : List ℕ). all && inDotBracket x) (drop-of-length-le s l) ∙ and-true all)
 
 or-true : (a b : Bool) → (a || b) ≡ true → (a ≡ true) ⊎ (b ≡ true)
 or-true true b e = inl refl
@@ -66,68 +66,68 @@ rounds zero = []
 rounds (suc n) = 2 ∷ rounds n
 
 -- What is known of a dot and of a round bracket: it is read alike in dot-bracket form, it is not refused, and its partner is round.
-record Plain (b : ℕ) : Type 0 where
-  form : ReadAsDot b
+record DotOrRound (b : ℕ) : Type 0 where
+  form : SameRole b
   next : (n : ℕ) → orNext (roleOf b) n ≡ suc n
   pass : (n : ℕ) (rest : List ℕ → ℕ) → (m : ℕ) × (passKind (roleOf b) (kindOf b) (rounds n) rest ≡ suc (rest (rounds m)))
 
-plain-dot : Plain 46
+of-dot : DotOrRound 46
 unfolding meaningOf
-plain-dot = record { form = refl; next = λ n. refl; pass = λ n rest. (n, refl) }
+of-dot = record { form = refl; next = λ n. refl; pass = λ n rest. (n, refl) }
 
-plain-opening : Plain 40
+of-opening : DotOrRound 40
 unfolding meaningOf
-plain-opening = record { form = refl; next = λ n. refl; pass = λ n rest. (suc n, refl) }
+of-opening = record { form = refl; next = λ n. refl; pass = λ n rest. (suc n, refl) }
 
-plain-closing : Plain 41
+of-closing : DotOrRound 41
 unfolding meaningOf
-plain-closing = record { form = refl; next = λ n. refl; pass = closed }
+of-closing = record { form = refl; next = λ n. refl; pass = closed }
   where
     closed : (n : ℕ) (rest : List ℕ → ℕ) → (m : ℕ) × (passKind (roleOf 41) (kindOf 41) (rounds n) rest ≡ suc (rest (rounds m)))
     closed zero rest = (0, refl)
     closed (suc n) rest = (n, refl)
 
-plain : (b : ℕ) → isDot b ≡ true → Plain b
-plain b h = elim (or-true (eqb b 46) (eqb b 40 || eqb b 41) h) [
-  | inl e ↦ subst Plain (sym (eqb-true b 46 e)) plain-dot
-  | inr w ↦ elim (or-true (eqb b 40) (eqb b 41) w) [ inl e ↦ subst Plain (sym (eqb-true b 40 e)) plain-opening | inr e ↦ subst Plain (sym (eqb-true b 41 e)) plain-closing ]
+dot-or-round : (b : ℕ) → isDotBracket b ≡ true → DotOrRound b
+dot-or-round b h = elim (or-true (eqb b 46) (eqb b 40 || eqb b 41) h) [
+  | inl e ↦ subst DotOrRound (sym (eqb-true b 46 e)) of-dot
+  | inr w ↦ elim (or-true (eqb b 40) (eqb b 41) w) [ inl e ↦ subst DotOrRound (sym (eqb-true b 40 e)) of-opening | inr e ↦ subst DotOrRound (sym (eqb-true b 41 e)) of-closing ]
 ]
 
 -- A text of dots and round brackets is in dot-bracket form, has no refused byte, and no partners of two kinds.
-nothing-refused : ReadAsDot 0
+nothing-refused : SameRole 0
 unfolding meaningOf
 nothing-refused = refl
 
-pub dots-form : (s : List ℕ) → allDots s ≡ true → InDotBracket s
+pub dots-form : (s : List ℕ) → inDotBracket s ≡ true → SameRoles s
 dots-form [] h i = nothing-refused
-dots-form (c ∷ s) h zero = plain c (and-both (isDot c) (allDots s) h .0) .form
-dots-form (c ∷ s) h (suc i) = dots-form s (and-both (isDot c) (allDots s) h .1) i
+dots-form (c ∷ s) h zero = dot-or-round c (and-both (isDotBracket c) (inDotBracket s) h .0) .form
+dots-form (c ∷ s) h (suc i) = dots-form s (and-both (isDotBracket c) (inDotBracket s) h .1) i
 
-pub dots-known : (s : List ℕ) → allDots s ≡ true → length s ≡ firstRefused s
+pub dots-known : (s : List ℕ) → inDotBracket s ≡ true → length s ≡ firstRefused s
 dots-known [] h = refl
 dots-known (c ∷ s) h =
-    let w = and-both (isDot c) (allDots s) h in
-    ap suc (dots-known s (w .1)) ∙ sym (plain c (w .0) .next (firstRefused s))
+    let w = and-both (isDotBracket c) (inDotBracket s) h in
+    ap suc (dots-known s (w .1)) ∙ sym (dot-or-round c (w .0) .next (firstRefused s))
 
-dots-pass : (s : List ℕ) → allDots s ≡ true → (n : ℕ) → firstOtherKind s (rounds n) ≡ length s
+dots-pass : (s : List ℕ) → inDotBracket s ≡ true → (n : ℕ) → firstOtherKind s (rounds n) ≡ length s
 dots-pass [] h n = refl
 dots-pass (c ∷ s) h n =
-    let w = and-both (isDot c) (allDots s) h in
-    let v = plain c (w .0) .pass n (firstOtherKind s) in
+    let w = and-both (isDotBracket c) (inDotBracket s) h in
+    let v = dot-or-round c (w .0) .pass n (firstOtherKind s) in
     v .1 ∙ ap suc (dots-pass s (w .1) (v .0))
 
-pub dots-kinds : (s : List ℕ) → allDots s ≡ true → firstOtherKind s [] ≡ length s
+pub dots-kinds : (s : List ℕ) → inDotBracket s ≡ true → firstOtherKind s [] ≡ length s
 dots-kinds s h = dots-pass s h 0
 
 -- A byte plays its role in dot-bracket form too.
-role-kept : (m : Role) → roleOf (dotByte m) ≡ m
+role-kept : (m : Role) → roleOf (formByte m) ≡ m
 unfolding meaningOf
 role-kept Unpaired = refl
 role-kept Opening = refl
 role-kept Closing = refl
 role-kept Refused = refl
 
-read-as-dot : (m : Role) → ReadAsDot (dotByte m)
+read-as-dot : (m : Role) → SameRole (formByte m)
 unfolding meaningOf
 read-as-dot Unpaired = refl
 read-as-dot Opening = refl
@@ -135,10 +135,10 @@ read-as-dot Closing = refl
 read-as-dot Refused = refl
 
 -- The comparisons by which a text is written, and a bracket's kind told, tell what the byte means.
-pub compared-role : (b : ℕ) → cond (isAmong b 46 44 58 95 || (eqb b 45 || eqb b 126)) 46 (cond (isAmong b 60 40 91 123) 40 (cond (isAmong b 62 41 93 125) 41 0)) ≡ dotByte (roleOf b)
+pub compared-role : (b : ℕ) → cond (isAmong b 46 44 58 95 || (eqb b 45 || eqb b 126)) 46 (cond (isAmong b 60 40 91 123) 40 (cond (isAmong b 62 41 93 125) 41 0)) ≡ formByte (roleOf b)
 unfolding meaningOf
 compared-role b =
-    by-byte (λ (x : ℕ). cond (isAmong x 46 44 58 95 || (eqb x 45 || eqb x 126)) 46 (cond (isAmong x 60 40 91 123) 40 (cond (isAmong x 62 41 93 125) 41 0)) ≡ dotByte (roleOf x)) b
+    by-byte (λ (x : ℕ). cond (isAmong x 46 44 58 95 || (eqb x 45 || eqb x 126)) 46 (cond (isAmong x 60 40 91 123) 40 (cond (isAmong x 62 41 93 125) 41 0)) ≡ formByte (roleOf x)) b
     refl refl refl refl refl refl refl refl refl refl refl refl refl refl
     (λ w. simp (w .0, w .1 .0, w .1 .1 .0, w .1 .1 .1 .0, w .1 .1 .1 .1 .0, w .1 .1 .1 .1 .1 .0, w .1 .1 .1 .1 .1 .1 .0, w .1 .1 .1 .1 .1 .1 .1 .0, w .1 .1 .1 .1 .1 .1 .1 .1 .0, w .1 .1 .1 .1 .1 .1 .1 .1 .1 .0, w .1 .1 .1 .1 .1 .1 .1 .1 .1 .1 .0, w .1 .1 .1 .1 .1 .1 .1 .1 .1 .1 .1 .0, w .1 .1 .1 .1 .1 .1 .1 .1 .1 .1 .1 .1 .0, w .1 .1 .1 .1 .1 .1 .1 .1 .1 .1 .1 .1 .1 .0, meaningOf))
 
@@ -149,7 +149,7 @@ compared-kind b =
     refl refl refl refl refl refl refl refl refl refl refl refl refl refl
     (λ w. simp (w .0, w .1 .0, w .1 .1 .0, w .1 .1 .1 .0, w .1 .1 .1 .1 .0, w .1 .1 .1 .1 .1 .0, w .1 .1 .1 .1 .1 .1 .0, w .1 .1 .1 .1 .1 .1 .1 .0, w .1 .1 .1 .1 .1 .1 .1 .1 .0, w .1 .1 .1 .1 .1 .1 .1 .1 .1 .0, w .1 .1 .1 .1 .1 .1 .1 .1 .1 .1 .0, w .1 .1 .1 .1 .1 .1 .1 .1 .1 .1 .1 .0, w .1 .1 .1 .1 .1 .1 .1 .1 .1 .1 .1 .1 .0, w .1 .1 .1 .1 .1 .1 .1 .1 .1 .1 .1 .1 .1 .0, meaningOf))
 
-pub form-in : (s : List ℕ) → InDotBracket (dotBracketOf s)
+pub form-in : (s : List ℕ) → SameRoles (dotBracketOf s)
 form-in [] i = nothing-refused
 form-in (c ∷ s) zero = read-as-dot (roleOf c)
 form-in (c ∷ s) (suc i) = form-in s i
@@ -162,20 +162,20 @@ pub form-refused : (s : List ℕ) → firstRefused (dotBracketOf s) ≡ firstRef
 form-refused [] = refl
 form-refused (c ∷ s) = ap₂ orNext (role-kept (roleOf c)) (form-refused s)
 
-pub form-role : (s : List ℕ) (i : ℕ) → roleOf (getD (dotBracketOf s) i 0) ≡ roleOf (getD s i 0)
-form-role [] i = refl
-form-role (c ∷ s) zero = role-kept (roleOf c)
-form-role (c ∷ s) (suc i) = form-role s i
+pub form-keeps-role : (s : List ℕ) (i : ℕ) → roleOf (getD (dotBracketOf s) i 0) ≡ roleOf (getD s i 0)
+form-keeps-role [] i = refl
+form-keeps-role (c ∷ s) zero = role-kept (roleOf c)
+form-keeps-role (c ∷ s) (suc i) = form-keeps-role s i
 
 -- A text whose form is dots and round brackets has no refused byte, and any other has one.
-pub form-dots : (s : List ℕ) → allDots (dotBracketOf s) ≡ true → length s ≤ firstRefused s
+pub form-dots : (s : List ℕ) → inDotBracket (dotBracketOf s) ≡ true → length s ≤ firstRefused s
 form-dots s h = omega (arith, dots-known (dotBracketOf s) h, form-length s, form-refused s)
 
-pub form-other : (s : List ℕ) → allDots (dotBracketOf s) ≡ false → firstRefused s < length s
+pub form-other : (s : List ℕ) → inDotBracket (dotBracketOf s) ≡ false → firstRefused s < length s
 form-other [] h = absurd (true≢false h)
 form-other (c ∷ s) h = go (roleOf c) h (form-other s)
   where
-    go : (m : Role) → (isDot (dotByte m) && allDots (dotBracketOf s)) ≡ false → (allDots (dotBracketOf s) ≡ false → firstRefused s < length s) → orNext m (firstRefused s) < suc (length s)
+    go : (m : Role) → (isDotBracket (formByte m) && inDotBracket (dotBracketOf s)) ≡ false → (inDotBracket (dotBracketOf s) ≡ false → firstRefused s < length s) → orNext m (firstRefused s) < suc (length s)
     go Unpaired e rest = omega (arith, rest e)
     go Opening e rest = omega (arith, rest e)
     go Closing e rest = omega (arith, rest e)
@@ -184,14 +184,14 @@ form-other (c ∷ s) h = go (roleOf c) h (form-other s)
 -- The runs of a text in dot-bracket form are its own with other bytes: as many nodes and bytes, and the same leftmost leaves.
 abbrev inDots : Run → Run
 inDots end = end
-inDots (dot c r) = dot (dotByte (roleOf c)) (inDots r)
-inDots (pair o i c r) = pair (dotByte (roleOf o)) (inDots i) (dotByte (roleOf c)) (inDots r)
+inDots (dot c r) = dot (formByte (roleOf c)) (inDots r)
+inDots (pair o i c r) = pair (formByte (roleOf o)) (inDots i) (formByte (roleOf c)) (inDots r)
 
 abbrev allInDots : Runs → Runs
 allInDots (last r) = last (inDots r)
-allInDots (more r c rs) = more (inDots r) (dotByte (roleOf c)) (allInDots rs)
+allInDots (more r c rs) = more (inDots r) (formByte (roleOf c)) (allInDots rs)
 
-form-onto : (m : Role) (c : ℕ) (x : Runs) → onto m (dotByte (roleOf c)) (allInDots x) ≡ allInDots (onto m c x)
+form-onto : (m : Role) (c : ℕ) (x : Runs) → onto m (formByte (roleOf c)) (allInDots x) ≡ allInDots (onto m c x)
 form-onto Unpaired c (last r) = refl
 form-onto Unpaired c (more r d rs) = refl
 form-onto Opening c (last r) = refl
@@ -202,7 +202,7 @@ form-onto Refused c x = refl
 
 form-runs : (s : List ℕ) → runs (dotBracketOf s) ≡ allInDots (runs s)
 form-runs [] = refl
-form-runs (c ∷ s) = ap₂ (λ (m : Role) (x : Runs). onto m (dotByte (roleOf c)) x) (role-kept (roleOf c)) (form-runs s) ∙ form-onto (roleOf c) c (runs s)
+form-runs (c ∷ s) = ap₂ (λ (m : Role) (x : Runs). onto m (formByte (roleOf c)) x) (role-kept (roleOf c)) (form-runs s) ∙ form-onto (roleOf c) c (runs s)
 
 first-in-dots : (x : Runs) → first (allInDots x) ≡ inDots (first x)
 first-in-dots (last r) = refl
@@ -214,7 +214,7 @@ form-first s = ap first (form-runs s) ∙ first-in-dots (runs s)
 bytes-kept : (r : Run) → length (spell (inDots r)) ≡ length (spell r)
 bytes-kept end = refl
 bytes-kept (dot c r) = ap suc (bytes-kept r)
-bytes-kept (pair o i c r) = omega (arith, bytes-kept i, bytes-kept r, length-append (spell (inDots i)) (dotByte (roleOf c) ∷ spell (inDots r)), length-append (spell i) (c ∷ spell r))
+bytes-kept (pair o i c r) = omega (arith, bytes-kept i, bytes-kept r, length-append (spell (inDots i)) (formByte (roleOf c) ∷ spell (inDots r)), length-append (spell i) (c ∷ spell r))
 
 nodes-kept : (r : Run) → size (inDots r) ≡ size r
 nodes-kept end = refl
@@ -242,7 +242,7 @@ form-stopped s =
 
     go : (b : Bool) (k : ℕ) → readOf (by (inDots (first (runs s))) (dotBracketOf s) b k) ≡ readOf (by (first (runs s)) s b k)
     go true k = ap (λ (t : Tree). record { answer = Accepted; tree = t }) (tree-kept (first (runs s)))
-    go false k = ap (λ (m : Role). readOf (textRefused (groundAt m) k)) (form-role s k)
+    go false k = ap (λ (m : Role). readOf (textRefused (groundAt m) k)) (form-keeps-role s k)
 
 pub form-blind : (s : List ℕ) → readOf (blindReading (dotBracketOf s)) ≡ readOf (blindReading s)
 form-blind s = ap₂ (λ (k n : ℕ). readOf (cond (ltb k n) (textRefused UnknownByte k) (stopped (dotBracketOf s) (first (runs (dotBracketOf s)))))) (form-refused s) (form-length s) ∙ go (ltb (firstRefused s) (length s))

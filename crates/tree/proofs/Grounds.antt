@@ -28,7 +28,7 @@ use Rattle.tree.proofs.FirstRefused.{refused-there, refused-first, refu
 use Rattle.tree.proofs.Lengths.{length-few, length-fits, tells-length}
 use Rattle.tree.proofs.Splits.{Stop, Splits, splits, begins, ended, after}
 use Rattle.tree.proofs.Splits.Stop.{none, open-at, bad-at}
-use Rattle.tree.proofs.Spelling.{read-spell, first-meant}
+use Rattle.tree.proofs.Spelling.{read-spell, spell-injective, first-meant}
 use Rattle.tree.proofs.Partners.{cut, closed-more, placed, placed-closes, placed-closed, placed-clean, not-closed, spell-not-opened, closes-all}
 use Rattle.tree.proofs.OtherKinds.{KindsOf, kinds-of-text}
 use Rattle.tree.proofs.OtherKinds.KindsOf.{alike, differ}
@@ -192,3 +192,7 @@ accepted-exactly s r = (
   λ e. let w = accepted-spell s r e in record { bytes = w .0; meant = w .1; kinds = w .3; few = length-few (length s) (w .2) },
   λ w. ap reading (w .bytes) ∙ read-accepts r (w .meant) (w .kinds) (subst (λ (l : List ℕ). badLength (length l) ≡ false) (w .bytes) (length-fits (length s) (w .few))),
 )
+
+-- Just one run spells a text.
+pub one-run : (s : List ℕ) (r q : Run) → Spells r s → Spells q s → r ≡ q
+one-run s r q v w = spell-injective r q (v .meant) (w .meant) (sym (v .bytes) ∙ w .bytes)

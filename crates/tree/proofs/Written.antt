@@ -16,10 +16,10 @@ use Rattle.character.specs.Character.{roleOf}
 use Rattle.character.specs.declared.Role.{Role}
 use Rattle.tree.specs.Reading.{Reading, readOf, firstRefused, blindReading, firstOtherKind, withKinds}
 use Rattle.tree.specs.Reading.Reading.{textAccepted, textRefused}
-use Rattle.tree.specs.inner.DotBracket.{InDotBracket, allDots, dotByte, dotBracketOf}
+use Rattle.tree.specs.inner.DotBracket.{SameRoles, inDotBracket, formByte, dotBracketOf}
 use Rattle.tree.specs.inner.Building.{Known, Formed}
 use Rattle.tree.specs.declared.TreeRead.{TreeRead}
-use Rattle.tree.proofs.DotBrackets.{dots-form, dots-known, dots-kinds, form-in, form-length, form-role, form-other, form-blind}
+use Rattle.tree.proofs.DotBrackets.{dots-form, dots-known, dots-kinds, form-in, form-length, form-keeps-role, form-other, form-blind}
 use Rattle.tree.proofs.Texts.{blind-unknown}
 
 -- The bytes up to i are written.
@@ -31,7 +31,7 @@ pub record WrittenTo (s : List ℕ) (i : ℕ) (form : List ℕ) : Type 0 where
 pub written-start : (s form : List ℕ) → length form ≡ 256 → WrittenTo s 0 form
 written-start s form h = record { inside = omega arith; room = h; is = refl }
 
-pub written-turn : (s form : List ℕ) (i : ℕ) {b : ℕ} → WrittenTo s i form → length s ≤ 255 → i < length s → b ≡ dotByte (roleOf (getD s i 0)) → WrittenTo s (i + 1) (set form i b)
+pub written-turn : (s form : List ℕ) (i : ℕ) {b : ℕ} → WrittenTo s i form → length s ≤ 255 → i < length s → b ≡ formByte (roleOf (getD s i 0)) → WrittenTo s (i + 1) (set form i b)
 written-turn s form i {b} h few lt e =
     record {
       inside = omega arith;
@@ -39,7 +39,7 @@ written-turn s form i {b} h few lt e =
       is = ap (λ (k : ℕ). take k (set form i b)) (add-one i)
           ∙ take-suc-set form i b (omega (arith, h .room))
           ∙ ap₂ (λ (l : List ℕ) (x : ℕ). l ++ x ∷ []) (h .is) e
-          ∙ sym (map-append (λ (c : ℕ). dotByte (roleOf c)) (take i s) (getD s i 0 ∷ []))
+          ∙ sym (map-append (λ (c : ℕ). formByte (roleOf c)) (take i s) (getD s i 0 ∷ []))
           ∙ ap dotBracketOf (sym (take-suc s i 0 lt) ∙ ap (λ (k : ℕ). take k s) (sym (add-one i)));
     }
 
@@ -49,12 +49,12 @@ written-end s form i h le =
     ap (λ (k : ℕ). take k form) (sym all) ∙ h .is ∙ ap (λ (k : ℕ). dotBracketOf (take k s)) all ∙ ap dotBracketOf (take-all (length s) s (omega arith))
 
 -- A text of dots and round brackets needs no other form, and no look at its kinds.
-module _ (s : List ℕ) (dots : allDots s ≡ true) where
-  pub plain-known : length s ≤ 255 → Known s
-  plain-known short = record { form = dots-form s dots; short = short; known = omega (arith, dots-known s dots) }
+module _ (s : List ℕ) (dots : inDotBracket s ≡ true) where
+  pub form-known : length s ≤ 255 → Known s
+  form-known short = record { form = dots-form s dots; short = short; known = omega (arith, dots-known s dots) }
 
-  pub plain-read : withKinds s (blindReading s) ≡ blindReading s
-  plain-read = go (blindReading s)
+  pub form-read : withKinds s (blindReading s) ≡ blindReading s
+  form-read = go (blindReading s)
     where
       go : (x : Reading) → withKinds s x ≡ x
       go (textAccepted r) = rw (dots-kinds s dots, le-ltb (length s) (length s) (omega arith))
@@ -65,11 +65,11 @@ module _ {s form : List ℕ} (h : Formed s form) where
   pub formed-length : length form ≡ length s
   formed-length = ap length (h .is) ∙ form-length s
 
-  pub formed-dot : InDotBracket form
-  formed-dot = subst InDotBracket (sym (h .is)) (form-in s)
+  pub formed-dot : SameRoles form
+  formed-dot = subst SameRoles (sym (h .is)) (form-in s)
 
   pub formed-role : (i : ℕ) {m : Role} → m ≡ roleOf (getD form i 0) → m ≡ roleOf (getD s i 0)
-  formed-role i e = e ∙ ap (λ (l : List ℕ). roleOf (getD l i 0)) (h .is) ∙ form-role s i
+  formed-role i e = e ∙ ap (λ (l : List ℕ). roleOf (getD l i 0)) (h .is) ∙ form-keeps-role s i
 
 -- What is read of a text in its dot-bracket form, in each case of the code. The form is a part of an array.
 module _ (s array : List ℕ) (short : length s ≤ 255) (whole : take (length s) array ≡ dotBracketOf s) where
@@ -82,10 +82,10 @@ module _ (s array : List ℕ) (short : length s ≤ 255) (whole : take (length s
   pub formed : Formed s Form
   formed = record { short = short; is = is }
 
-  pub written-refused : allDots Form ≡ false → (u : ℕ) → u ≡ firstRefused s → readOf (textRefused UnknownByte u) ≡ readOf (withKinds s (blindReading s))
-  written-refused h u e = ap (λ (k : ℕ). readOf (textRefused UnknownByte k)) e ∙ sym (ap (λ (x : Reading). readOf (withKinds s x)) (blind-unknown s (form-other s (sym (ap allDots is) ∙ h))))
+  pub written-refused : inDotBracket Form ≡ false → (u : ℕ) → u ≡ firstRefused s → readOf (textRefused UnknownByte u) ≡ readOf (withKinds s (blindReading s))
+  written-refused h u e = ap (λ (k : ℕ). readOf (textRefused UnknownByte k)) e ∙ sym (ap (λ (x : Reading). readOf (withKinds s x)) (blind-unknown s (form-other s (sym (ap inDotBracket is) ∙ h))))
 
-  pub written-known : allDots Form ≡ true → Known Form
+  pub written-known : inDotBracket Form ≡ true → Known Form
   written-known h = record { form = dots-form Form h; short = omega (arith, ap length is, form-length s); known = omega (arith, dots-known Form h) }
 
   module _ (x : TreeRead) (read : x ≡ readOf (blindReading Form)) where

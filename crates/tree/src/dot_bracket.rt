@@ -1,15 +1,18 @@
 // Texts in dot-bracket form, dots and round brackets alone: the form in which every text is read.
+use super::compare::among;
+use super::compare::both;
+use super::compare::either;
+use super::compare::pick;
 use character::Role;
 ghost use mathlib.Core.Path.{_≡_};
-ghost use mathlib.Core.Bool.{cond, _&&_, _||_};
 ghost use Prim.Native.Nat.{_≤_};
 ghost use lib.ListN.{length, take};
 ghost use Rattle.character.specs.Character.{roleOf};
-ghost use Rattle.tree.specs.inner.DotBracket.{ReadAsDot, isDot, allDots, isAmong, dotByte, dotBracketOf};
+ghost use Rattle.tree.specs.inner.DotBracket.{SameRole, isDotBracket, inDotBracket, formByte, dotBracketOf};
 
 // The role of a byte of such a text. Few bytes are told apart, so that each costs little where it is read.
-pub fn dot_role(byte: u8) -> Role
-    requires { ⌜ ReadAsDot byte ⌝ }
+pub fn form_role(byte: u8) -> Role
+    requires { ⌜ SameRole byte ⌝ }
     ensures { λ r. ⌜ r ≡ roleOf byte ⌝ }
 {
     match byte {
@@ -20,55 +23,30 @@ pub fn dot_role(byte: u8) -> Role
     }
 }
 
-fn both(a: bool, b: bool) -> bool
-    ensures { λ r. ⌜ r ≡ (a && b) ⌝ }
-{
-    if a { b } else { false }
-}
-
-pub fn either(a: bool, b: bool) -> bool
-    ensures { λ r. ⌜ r ≡ (a || b) ⌝ }
-{
-    if a { true } else { b }
-}
-
 // Whether a byte is a dot or a round bracket.
-fn is_dot(byte: u8) -> bool
-    ensures { λ r. ⌜ r ≡ isDot byte ⌝ }
+fn is_dot_bracket(byte: u8) -> bool
+    ensures { λ r. ⌜ r ≡ isDotBracket byte ⌝ }
 {
     either(byte == 46, either(byte == 40, byte == 41))
 }
 
 // Whether all bytes are dots and round brackets. No byte ends the loop, so that many bytes are looked at in one step.
-pub fn all_dots(text: &[u8]) -> bool
-    ensures { λ r. ⌜ r ≡ allDots (now (text .entry)) ⌝ }
+pub fn in_dot_bracket(text: &[u8]) -> bool
+    ensures { λ r. ⌜ r ≡ inDotBracket (now (text .entry)) ⌝ }
 {
     let mut all = true;
     let mut i = 0;
     while i < text.len() {
-        all = both(all, is_dot(text[i]));
+        all = both(all, is_dot_bracket(text[i]));
         i += 1;
     }
     all
 }
 
-pub fn pick(a: bool, x: u8, y: u8) -> u8
-    ensures { λ r. ⌜ r ≡ cond a x y ⌝ }
-{
-    if a { x } else { y }
-}
-
-// Whether a byte is one of four.
-fn among(byte: u8, a: u8, b: u8, c: u8, d: u8) -> bool
-    ensures { λ r. ⌜ r ≡ isAmong byte a b c d ⌝ }
-{
-    either(either(byte == a, byte == b), either(byte == c, byte == d))
-}
-
 // The byte that plays the role of a byte in dot-bracket form: a refused one stays refused. It is found by comparing alone, so that many bytes are
 // written in one step.
-fn dot_byte(byte: u8) -> u8
-    ensures { λ r. ⌜ r ≡ dotByte (roleOf byte) ⌝ }
+fn form_byte(byte: u8) -> u8
+    ensures { λ r. ⌜ r ≡ formByte (roleOf byte) ⌝ }
 {
     let unpaired = either(among(byte, 46, 44, 58, 95), either(byte == 45, byte == 126));
     let opening = among(byte, 60, 40, 91, 123);
@@ -84,7 +62,7 @@ pub fn dot_bracket(text: &[u8]) -> [u8; 256]
     let mut form = [0u8; 256];
     let mut i = 0;
     while i < text.len() {
-        form[i] = dot_byte(text[i]);
+        form[i] = form_byte(text[i]);
         i += 1;
     }
     form

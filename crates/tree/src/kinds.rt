@@ -1,7 +1,7 @@
 // Ground 24: the kinds of a text's brackets.
-use super::dot_bracket::dot_role;
-use super::dot_bracket::either;
-use super::dot_bracket::pick;
+use super::compare::either;
+use super::compare::pick;
+use super::dot_bracket::form_role;
 use character::Role;
 ghost use mathlib.Core.Path.{_≡_};
 ghost use mathlib.Core.List.{[]};
@@ -49,7 +49,7 @@ pub fn first_other_kind(text: &[u8], form: &[u8]) -> usize
     let mut depth = 0;
     let mut i = 0;
     while i < text.len() {
-        let role = dot_role(form[i]);
+        let role = form_role(form[i]);
         match role {
             Role::Opening => {
                 kinds[depth] = kind_of(text[i]);

@@ -1,4 +1,5 @@
 // A text read into a tree.
+mod compare;
 mod dot_bracket;
 mod kinds;
 mod run;
@@ -8,9 +9,9 @@ use answer::Answer;
 use answer::Ground;
 use answer::Place;
 use character::Role;
-use dot_bracket::all_dots;
 use dot_bracket::dot_bracket;
-use dot_bracket::dot_role;
+use dot_bracket::form_role;
+use dot_bracket::in_dot_bracket;
 use kinds::first_other_kind;
 use run::read_run;
 use unknown::first_refused;
@@ -73,7 +74,7 @@ fn read_known(text: &[u8]) -> TreeRead
             tree: Tree { n: end.n + 1, left },
         };
     }
-    let role = dot_role(text[at]);
+    let role = form_role(text[at]);
     match role {
         Role::Closing => refused(Ground::ClosesNothing, at),
         _ => refused(Ground::NeverClosed, at),
@@ -98,7 +99,7 @@ fn read_written(text: &[u8]) -> TreeRead
     let len = text.len();
     let form = dot_bracket(text);
     let written = &form[0..len];
-    if !all_dots(written) {
+    if !in_dot_bracket(written) {
         return refused(Ground::UnknownByte, first_refused(text));
     }
     let read = read_known(written);
@@ -117,7 +118,7 @@ pub fn read(text: &[u8]) -> TreeRead
     if bad_length(text.len()) {
         return refused(Ground::TextLength, 0);
     }
-    if all_dots(text) {
+    if in_dot_bracket(text) {
         return read_known(text);
     }
     read_written(text)

@@ -1,12 +1,12 @@
 // Reading a run of items: a run and an item call each other, by way of the run inside a bracket pair and of the rest behind one. The bytes left to
 // read fall from an item to what is inside it, and from there to the rest behind; from a rest to its run and from a run to an item they stay. So
 // what falls at each call is three times the bytes left, with two more for a rest and one more for a run.
-use super::dot_bracket::dot_role;
+use super::dot_bracket::form_role;
 use character::Role;
 ghost use mathlib.Core.Path.{_≡_};
 ghost use lib.ListN.{getD};
 ghost use Rattle.character.specs.Character.{roleOf};
-ghost use Rattle.tree.specs.inner.DotBracket.{InDotBracket};
+ghost use Rattle.tree.specs.inner.DotBracket.{SameRoles};
 ghost use Rattle.tree.specs.inner.Building.{Ready, RunRead, ItemRead, Descended, closing};
 
 // How far a text is read: up to the byte at `at`, with n nodes before it.
@@ -39,7 +39,7 @@ fn read_item(text: &[u8], at: usize, n: usize, left: &mut [u8]) -> ReadTo
     if text.len() <= at {
         return ReadTo { at, n };
     }
-    let role = dot_role(text[at]);
+    let role = form_role(text[at]);
     match role {
         Role::Unpaired => {
             left[n] = n as u8;
@@ -67,13 +67,13 @@ fn read_item(text: &[u8], at: usize, n: usize, left: &mut [u8]) -> ReadTo
 
 // Whether a closing byte stands at a place.
 fn closes(text: &[u8], at: usize) -> bool
-    requires { ⌜ InDotBracket (now text) ⌝ }
+    requires { ⌜ SameRoles (now text) ⌝ }
     ensures { λ r. ⌜ r ≡ closing (roleOf (getD (now (text .entry)) at 0)) ⌝ }
 {
     if text.len() <= at {
         return false;
     }
-    let role = dot_role(text[at]);
+    let role = form_role(text[at]);
     match role {
         Role::Closing => true,
         _ => false,
@@ -88,7 +88,7 @@ fn descend(text: &[u8], at: usize, n: usize, left: &mut [u8]) -> ReadTo
     let mut i = at;
     let mut m = n;
     while i < text.len() {
-        let role = dot_role(text[i]);
+        let role = form_role(text[i]);
         match role {
             Role::Unpaired => {
                 left[m] = m as u8;
@@ -113,7 +113,7 @@ fn read_inside(text: &[u8], at: usize, n: usize, left: &mut [u8]) -> ReadTo
     let mut p = here.at;
     while at < p {
         p -= 1;
-        let role = dot_role(text[p]);
+        let role = form_role(text[p]);
         match role {
             Role::Unpaired => {
                 m -= 1;

@@ -22,13 +22,13 @@ add-t11 c =
 returns : tie.Need-returns
 returns c = read-all _ (c .before .before .before .before .before .before .pre) _ _ (c .before .before .before .read-run .ensures) (c .before .if1 .taken)
 
-shared-slice-read-dot-role : tie.Need-shared-slice-read-dot-role
-shared-slice-read-dot-role c =
+shared-slice-read-form-role : tie.Need-shared-slice-read-form-role
+shared-slice-read-form-role c =
     let start = c .before .before .before .before .before .before in
     read-inside (start .args .text .now) (start .pre) _ _ (c .before .before .before .read-run .ensures) (c .before .if1 .left)
 
-dot-role-requires : tie.Need-dot-role-requires
-dot-role-requires c κs = c .before .before .before .before .before .before .pre .form _
+form-role-requires : tie.Need-form-role-requires
+form-role-requires c κs = c .before .before .before .before .before .before .pre .form _
 
 enum-told : tie.Need-enum-told
 enum-told c = search needs
@@ -43,13 +43,13 @@ returns-2 : tie.Need-returns-2
 returns-2 c =
     let run = c .before .before .before .before .before in
     c .refused .ensures
-    ∙ sym (ap readOf (read-closing _ (run .before .before .before .before .before .pre) _ _ (run .before .before .read-run .ensures) (run .if1 .left) _ (c .before .before .before .dot-role .ensures) (c .before .enum-told .given .1)))
+    ∙ sym (ap readOf (read-closing _ (run .before .before .before .before .before .pre) _ _ (run .before .before .read-run .ensures) (run .if1 .left) _ (c .before .before .before .form-role .ensures) (c .before .enum-told .given .1)))
 
 returns-3 : tie.Need-returns-3
 returns-3 c =
     let run = c .before .before .before .before in
     c .refused2 .ensures
-    ∙ sym (ap readOf (read-opening _ (run .before .before .before .before .before .pre) _ _ (run .before .before .read-run .ensures) (run .if1 .left) _ (c .before .before .dot-role .ensures) (c .before .match .keys2)))
+    ∙ sym (ap readOf (read-opening _ (run .before .before .before .before .before .pre) _ _ (run .before .before .read-run .ensures) (run .if1 .left) _ (c .before .before .form-role .ensures) (c .before .match .keys2)))
 
 pub read-known-spec : {M : Type 1} → statement M
 read-known-spec =
@@ -59,8 +59,8 @@ read-known-spec =
     read-run-requires
     add-t11
     returns
-    shared-slice-read-dot-role
-    dot-role-requires
+    shared-slice-read-form-role
+    form-role-requires
     enum-told
     refused-requires
     refused-requires-2

@@ -18,8 +18,8 @@ part-written-start c = search needs
 part-written-end : tie.Need-part-written-end
 part-written-end c = search needs
 
-all-dots-requires : tie.Need-all-dots-requires
-all-dots-requires c κs = search needs
+in-dot-bracket-requires : tie.Need-in-dot-bracket-requires
+in-dot-bracket-requires c κs = search needs
 
 first-refused-requires : tie.Need-first-refused-requires
 first-refused-requires c κs = search needs
@@ -32,13 +32,13 @@ returns c =
     let form = c .before .before .before .before .before .before in
     let start = form .before .before in
     c .refused .ensures
-    ∙ written-refused (start .args .text .now) _ (start .pre) (form .dot-bracket .ensures) (sym (c .before .before .before .all-dots .ensures) ∙ not-true _ (c .before .before .if1 .taken)) _ (c .before .first-refused .ensures)
+    ∙ written-refused (start .args .text .now) _ (start .pre) (form .dot-bracket .ensures) (sym (c .before .before .before .in-dot-bracket .ensures) ∙ not-true _ (c .before .before .if1 .taken)) _ (c .before .first-refused .ensures)
 
 read-known-requires : tie.Need-read-known-requires
 read-known-requires c κs =
     let form = c .before .before .before .before in
     let start = form .before .before in
-    written-known (start .args .text .now) _ (start .pre) (form .dot-bracket .ensures) (sym (c .before .all-dots .ensures) ∙ not-false _ (c .if1 .left))
+    written-known (start .args .text .now) _ (start .pre) (form .dot-bracket .ensures) (sym (c .before .in-dot-bracket .ensures) ∙ not-false _ (c .if1 .left))
 
 first-other-kind-requires : tie.Need-first-other-kind-requires
 first-other-kind-requires c κs =
@@ -73,7 +73,7 @@ read-written-spec =
     sub-written
     part-written-start
     part-written-end
-    all-dots-requires
+    in-dot-bracket-requires
     first-refused-requires
     refused-requires
     returns

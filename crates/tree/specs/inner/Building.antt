@@ -12,7 +12,7 @@ use Rattle.character.specs.Character.{roleOf}
 use Rattle.tree.specs.Reading.{first, runs, firstRefused}
 use Rattle.character.specs.declared.Role.{Role}
 use Rattle.character.specs.declared.Role.the-variants.{Unpaired, Opening, Closing, Refused}
-use Rattle.tree.specs.inner.DotBracket.{InDotBracket, dotBracketOf}
+use Rattle.tree.specs.inner.DotBracket.{SameRoles, dotBracketOf}
 use Rattle.tree.specs.declared.run.ReadTo.{ReadTo}
 
 -- The run that is read from a byte of a text on.
@@ -28,7 +28,7 @@ itemOf (pair o i c r) = pair o i c end
 -- Where a run can be read: at a byte of a text of at most 255 in dot-bracket form, with no more nodes before it than bytes, and room for a leaf for
 -- each byte.
 pub record Ready (s : List ℕ) (at n : ℕ) (left : List ℕ) : Type 0 where
-  pub form : InDotBracket s
+  pub form : SameRoles s
   pub short : length s ≤ 255
   pub inside : at ≤ length s
   pub fewer : n ≤ at
@@ -98,7 +98,7 @@ pub record Descended (s : List ℕ) (at n : ℕ) (left : List ℕ) (x : ReadTo) 
 
 -- A text of at most 255 bytes in dot-bracket form that has no refused byte.
 pub record Known (s : List ℕ) : Type 0 where
-  pub form : InDotBracket s
+  pub form : SameRoles s
   pub short : length s ≤ 255
   pub known : length s ≤ firstRefused s
 

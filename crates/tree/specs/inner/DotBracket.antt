@@ -10,34 +10,34 @@ use Rattle.character.specs.declared.Role.{Role}
 use Rattle.character.specs.declared.Role.the-variants.{Unpaired, Opening, Closing, Refused}
 
 -- The role of a byte where only the dot and the round brackets have one.
-abbrev pub dotRole : ℕ → Role
-dotRole b = cond (eqb b 46) Unpaired (cond (eqb b 40) Opening (cond (eqb b 41) Closing Refused))
+abbrev pub formRole : ℕ → Role
+formRole b = cond (eqb b 46) Unpaired (cond (eqb b 40) Opening (cond (eqb b 41) Closing Refused))
 
 -- A byte that may stand in dot-bracket form: a dot, a round bracket, or one that is refused in either.
-abbrev pub ReadAsDot : ℕ → Type 0
-ReadAsDot b = dotRole b ≡ roleOf b
+abbrev pub SameRole : ℕ → Type 0
+SameRole b = formRole b ≡ roleOf b
 
-abbrev pub InDotBracket : List ℕ → Type 0
-InDotBracket s = (i : ℕ) → ReadAsDot (getD s i 0)
+abbrev pub SameRoles : List ℕ → Type 0
+SameRoles s = (i : ℕ) → SameRole (getD s i 0)
 
 -- Whether a byte is a dot or a round bracket, and whether all bytes of a text are.
-abbrev pub isDot : ℕ → Bool
-isDot b = eqb b 46 || (eqb b 40 || eqb b 41)
+abbrev pub isDotBracket : ℕ → Bool
+isDotBracket b = eqb b 46 || (eqb b 40 || eqb b 41)
 
-abbrev pub allDots : List ℕ → Bool
-allDots [] = true
-allDots (c ∷ s) = isDot c && allDots s
+abbrev pub inDotBracket : List ℕ → Bool
+inDotBracket [] = true
+inDotBracket (c ∷ s) = isDotBracket c && inDotBracket s
 
 -- Whether a byte is one of four.
 abbrev pub isAmong : ℕ → ℕ → ℕ → ℕ → ℕ → Bool
 isAmong x a b c d = (eqb x a || eqb x b) || (eqb x c || eqb x d)
 
 -- The byte that plays a role in dot-bracket form, and the text in it. Byte 0 is refused.
-abbrev pub dotByte : Role → ℕ
-dotByte Unpaired = 46
-dotByte Opening = 40
-dotByte Closing = 41
-dotByte Refused = 0
+abbrev pub formByte : Role → ℕ
+formByte Unpaired = 46
+formByte Opening = 40
+formByte Closing = 41
+formByte Refused = 0
 
 abbrev pub dotBracketOf : List ℕ → List ℕ
-dotBracketOf s = map (λ (b : ℕ). dotByte (roleOf b)) s
+dotBracketOf s = map (λ (b : ℕ). formByte (roleOf b)) s

@@ -16,11 +16,11 @@ abbrev μ-loop : tie.MeasureT-loop
 loop-holds : tie.Need-loop-holds Inv-loop μ-loop
 loop-holds c = written-start _ _ (search needs)
 
-shared-slice-read-dot-byte : tie.Need-shared-slice-read-dot-byte Inv-loop μ-loop
-shared-slice-read-dot-byte c = c .before .loop-test .taken
+shared-slice-read-form-byte : tie.Need-shared-slice-read-form-byte Inv-loop μ-loop
+shared-slice-read-form-byte c = c .before .loop-test .taken
 
-dot-byte-requires : tie.Need-dot-byte-requires Inv-loop μ-loop
-dot-byte-requires c κs = tt
+form-byte-requires : tie.Need-form-byte-requires Inv-loop μ-loop
+form-byte-requires c κs = tt
 
 array-write-form : tie.Need-array-write-form Inv-loop μ-loop
 array-write-form c = omega (arith, c .before .before .loop-test .taken, c .before .before .before .before .before .pre)
@@ -32,7 +32,7 @@ loop-less : tie.Need-loop-less Inv-loop μ-loop
 loop-less c = omega (arith, c .before .before .loop-test .taken)
 
 loop-again : tie.Need-loop-again Inv-loop μ-loop
-loop-again c = written-turn _ _ _ (c .before .before .before .loop .inv) (c .before .before .before .before .before .pre) (c .before .before .loop-test .taken) (c .dot-byte .ensures)
+loop-again c = written-turn _ _ _ (c .before .before .before .loop .inv) (c .before .before .before .before .before .pre) (c .before .before .loop-test .taken) (c .form-byte .ensures)
 
 returns : tie.Need-returns Inv-loop μ-loop
 returns c = written-end _ _ _ (c .before .loop .inv) (c .loop-test .left)
@@ -44,8 +44,8 @@ dot-bracket-spec =
     Inv-loop
     μ-loop
     loop-holds
-    shared-slice-read-dot-byte
-    dot-byte-requires
+    shared-slice-read-form-byte
+    form-byte-requires
     array-write-form
     add-i
     loop-less

@@ -20,11 +20,11 @@ abbrev μ-loop : tie.MeasureT-loop
 loop-holds : tie.Need-loop-holds Inv-loop μ-loop
 loop-holds c = passed-start _ _ (search needs)
 
-shared-slice-read-dot-role : tie.Need-shared-slice-read-dot-role Inv-loop μ-loop
-shared-slice-read-dot-role c = omega (arith, c .before .loop-test .taken, formed-length (c .before .before .before .before .before .pre))
+shared-slice-read-form-role : tie.Need-shared-slice-read-form-role Inv-loop μ-loop
+shared-slice-read-form-role c = omega (arith, c .before .loop-test .taken, formed-length (c .before .before .before .before .before .pre))
 
-dot-role-requires : tie.Need-dot-role-requires Inv-loop μ-loop
-dot-role-requires c κs = formed-dot (c .before .before .before .before .before .pre) _
+form-role-requires : tie.Need-form-role-requires Inv-loop μ-loop
+form-role-requires c κs = formed-dot (c .before .before .before .before .before .pre) _
 
 enum-told : tie.Need-enum-told Inv-loop μ-loop
 enum-told c = c .match .keys1
@@ -62,7 +62,7 @@ last-is-requires c κs =
 returns : tie.Need-returns Inv-loop μ-loop
 returns c =
     let test = c .before .before .before .before .before .before .before .before .before in
-    passed-found _ _ _ _ (test .before .loop .inv) (test .loop-test .taken) _ (formed-role (test .before .before .before .before .pre) _ (c .before .before .before .before .before .before .before .dot-role .ensures)) _ (c .before .before .kind-of2 .ensures)
+    passed-found _ _ _ _ (test .before .loop .inv) (test .loop-test .taken) _ (formed-role (test .before .before .before .before .pre) _ (c .before .before .before .before .before .before .before .form-role .ensures)) _ (c .before .before .kind-of2 .ensures)
     (c .before .before .before .before .before .enum-told2 .given .1) (sym (c .before .last-is .ensures) ∙ not-true _ (c .if1 .taken))
 
 less-requires : tie.Need-less-requires Inv-loop μ-loop
@@ -80,7 +80,7 @@ loop-again c =
     let inv = test .before .loop .inv in
     let taken = test .loop-test .taken in
     let pre = test .before .before .before .before .pre in
-    let role = formed-role pre _ (c .before .dot-role .ensures) in
+    let role = formed-role pre _ (c .before .form-role .ensures) in
     elim (c .match .came) [
       | inl x ↦ rw (x .4, x .5) (passed-opening _ _ _ _ inv taken _ role _ (x .3 .ensures) (pre .short) (x .1 .given .1))
       | inr (inl x) ↦ rw (x .8, x .9) (passed-closing _ _ _ _ inv taken _ role _ (x .4 .ensures) (x .1 .given .1) (sym (x .5 .ensures) ∙ not-false _ (x .6 .left)) _ (x .7 .ensures))
@@ -97,8 +97,8 @@ first-other-kind-spec =
     Inv-loop
     μ-loop
     loop-holds
-    shared-slice-read-dot-role
-    dot-role-requires
+    shared-slice-read-form-role
+    form-role-requires
     enum-told
     shared-slice-read-kind-of
     kind-of-requires

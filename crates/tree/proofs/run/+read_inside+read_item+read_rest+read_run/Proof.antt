@@ -25,11 +25,11 @@ use Rattle.tree.proofs.run.+read_inside+read_item+read_rest+read_run.Ti
 read-item-returns : (t : ℕ) → read-item-lts.Need-returns (read-item-claims t) (read-item-at t) read-item.Post
 read-item-returns t c = item-end _ _ _ _ (c .if1 .taken)
 
-read-item-shared-slice-read-dot-role : (t : ℕ) → read-item-lts.Need-shared-slice-read-dot-role (read-item-claims t) (read-item-at t) read-item.Post
-read-item-shared-slice-read-dot-role t c = c .before .if1 .left
+read-item-shared-slice-read-form-role : (t : ℕ) → read-item-lts.Need-shared-slice-read-form-role (read-item-claims t) (read-item-at t) read-item.Post
+read-item-shared-slice-read-form-role t c = c .before .if1 .left
 
-read-item-dot-role-requires : (t : ℕ) → read-item-lts.Need-dot-role-requires (read-item-claims t) (read-item-at t) read-item.Post
-read-item-dot-role-requires t c κs = c .before .before .before .before .pre .1 .form _
+read-item-form-role-requires : (t : ℕ) → read-item-lts.Need-form-role-requires (read-item-claims t) (read-item-at t) read-item.Post
+read-item-form-role-requires t c κs = c .before .before .before .before .pre .1 .form _
 
 read-item-enum-told : (t : ℕ) → read-item-lts.Need-enum-told (read-item-claims t) (read-item-at t) read-item.Post
 read-item-enum-told t c = c .match .keys1
@@ -62,7 +62,7 @@ read-item-same-length : (t : ℕ) → read-item-lts.Need-same-length (read-item-
 read-item-same-length t c = c .before .before .before .before .read-inside .kept .1 .1 .1 .0
 
 read-item-returns-2 : (t : ℕ) → read-item-lts.Need-returns-2 (read-item-claims t) (read-item-at t) read-item.Post
-read-item-returns-2 t c = item-unclosed _ _ _ _ (c .before .before .before .before .before .before .before .before .before .before .if1 .left) _ (c .before .before .before .before .before .before .before .before .dot-role .ensures) (c .before .before .before .before .before .before .enum-told2 .given .1) _ _ (c .before .before .before .before .read-inside .ensures) (sym (c .before .closes .ensures) ∙ not-true _ (c .if2 .taken))
+read-item-returns-2 t c = item-unclosed _ _ _ _ (c .before .before .before .before .before .before .before .before .before .before .if1 .left) _ (c .before .before .before .before .before .before .before .before .form-role .ensures) (c .before .before .before .before .before .before .enum-told2 .given .1) _ _ (c .before .before .before .before .read-inside .ensures) (sym (c .before .closes .ensures) ∙ not-true _ (c .if2 .taken))
 
 read-item-cast-left-2 : (t : ℕ) → read-item-lts.Need-cast-left-2 (read-item-claims t) (read-item-at t) read-item.Post
 read-item-cast-left-2 t c = let h = fewer-nodes (c .before .before .before .before .read-inside .ensures) (omega arith) in let b = closed-inside (c .before .before .before .before .before .before .before .before .before .before .before .before .before .args .text .now) (c .before .before .before .before .read-inside .result .at) (sym (c .before .closes .ensures) ∙ not-false _ (c .if2 .left)) in omega arith
@@ -80,16 +80,16 @@ read-item-same-length-2 : (t : ℕ) → read-item-lts.Need-same-length-2 (read-i
 read-item-same-length-2 t c = simp length-set
 
 read-item-returns-3 : (t : ℕ) → read-item-lts.Need-returns-3 (read-item-claims t) (read-item-at t) read-item.Post
-read-item-returns-3 t c = item-dot _ _ _ _ (c .before .before .before .before .if1 .left) _ (c .before .before .dot-role .ensures) (c .enum-told .given .1)
+read-item-returns-3 t c = item-dot _ _ _ _ (c .before .before .before .before .if1 .left) _ (c .before .before .form-role .ensures) (c .enum-told .given .1)
 
 read-item-same-length-3 : (t : ℕ) → read-item-lts.Need-same-length-3 (read-item-claims t) (read-item-at t) read-item.Post
 read-item-same-length-3 t c = simp length-set (c .before .before .before .before .read-inside .kept .1 .1 .1 .0)
 
 read-item-returns-4 : (t : ℕ) → read-item-lts.Need-returns-4 (read-item-claims t) (read-item-at t) read-item.Post
-read-item-returns-4 t c = item-closed _ _ _ _ (c .before .before .before .before .before .before .before .before .before .before .if1 .left) _ (c .before .before .before .before .before .before .before .before .dot-role .ensures) (c .before .before .before .before .before .before .enum-told2 .given .1) _ _ (c .before .before .before .before .read-inside .ensures) (sym (c .before .closes .ensures) ∙ not-false _ (c .if2 .left))
+read-item-returns-4 t c = item-closed _ _ _ _ (c .before .before .before .before .before .before .before .before .before .before .if1 .left) _ (c .before .before .before .before .before .before .before .before .form-role .ensures) (c .before .before .before .before .before .before .enum-told2 .given .1) _ _ (c .before .before .before .before .read-inside .ensures) (sym (c .before .closes .ensures) ∙ not-false _ (c .if2 .left))
 
 read-item-returns-5 : (t : ℕ) → read-item-lts.Need-returns-5 (read-item-claims t) (read-item-at t) read-item.Post
-read-item-returns-5 t c = item-other _ _ _ _ (c .before .before .before .if1 .left) _ (c .before .dot-role .ensures) (c .match .keys3)
+read-item-returns-5 t c = item-other _ _ _ _ (c .before .before .before .if1 .left) _ (c .before .form-role .ensures) (c .match .keys3)
 
 read-rest-closes-requires : (t : ℕ) → read-rest-lts.Need-closes-requires (read-rest-claims t) (read-rest-at t) read-rest.Post
 read-rest-closes-requires t c κs = c .before .before .pre .1 .form
@@ -140,8 +140,8 @@ pub +read-inside+read-item+read-rest+read-run-spec : {M : Type 1} → statement 
     (inside.read-inside-descend-requires t)
     (inside.read-inside-loop-holds t)
     (inside.read-inside-sub-p t)
-    (inside.read-inside-shared-slice-read-dot-role t)
-    (inside.read-inside-dot-role-requires t)
+    (inside.read-inside-shared-slice-read-form-role t)
+    (inside.read-inside-form-role-requires t)
     (inside.read-inside-enum-told t)
     (inside.read-inside-sub-m t)
     (inside.read-inside-loop-less t)
@@ -162,8 +162,8 @@ pub +read-inside+read-item+read-rest+read-run-spec : {M : Type 1} → statement 
     (read-item-at t)
     read-item.Post
     (read-item-returns t)
-    (read-item-shared-slice-read-dot-role t)
-    (read-item-dot-role-requires t)
+    (read-item-shared-slice-read-form-role t)
+    (read-item-form-role-requires t)
     (read-item-enum-told t)
     (read-item-cast-left t)
     (read-item-slice-write-left t)

@@ -16,7 +16,7 @@ use Rattle.tree.proofs.run.+read_inside+read_item+read_rest+read_run.Lt
 use Rattle.tree.proofs.run.read_run.Reads as read-run
 use Rattle.tree.proofs.run.read_run.Kinds as read-run-kinds
 use Rattle.tree.proofs.run.+read_inside+read_item+read_rest+read_run.Lts-read_run as read-run-lts
-use Rattle.tree.proofs.dot_bracket.dot_role.Reads as dot-role-reads
+use Rattle.tree.proofs.dot_bracket.form_role.Reads as form-role-reads
 use Rattle.tree.proofs.run.closes.Reads as closes-reads
 use Rattle.tree.proofs.run.descend.Reads as descend-reads
 
@@ -62,10 +62,10 @@ read-run-below t =
     and 2 read-run-kinds.ps (falls 2 read-run-kinds.ps _<_ μ-read-run t) read-run.Pre
 
 abbrev pub read-inside-claims : ℕ → read-inside-lts.Claims
-read-inside-claims t = (descend-reads.Asked, descend-reads.Learnt, dot-role-reads.Asked, dot-role-reads.Learnt, closes-reads.Asked, closes-reads.Learnt, read-rest-below t, read-rest.Post)
+read-inside-claims t = (descend-reads.Asked, descend-reads.Learnt, form-role-reads.Asked, form-role-reads.Learnt, closes-reads.Asked, closes-reads.Learnt, read-rest-below t, read-rest.Post)
 
 abbrev pub read-item-claims : ℕ → read-item-lts.Claims
-read-item-claims t = (dot-role-reads.Asked, dot-role-reads.Learnt, read-inside-below t, read-inside.Post, closes-reads.Asked, closes-reads.Learnt)
+read-item-claims t = (form-role-reads.Asked, form-role-reads.Learnt, read-inside-below t, read-inside.Post, closes-reads.Asked, closes-reads.Learnt)
 
 abbrev pub read-rest-claims : ℕ → read-rest-lts.Claims
 read-rest-claims t = (closes-reads.Asked, closes-reads.Learnt, read-run-below t, read-run.Post)

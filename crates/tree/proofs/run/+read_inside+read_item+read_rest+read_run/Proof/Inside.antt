@@ -26,23 +26,23 @@ read-inside-loop-holds t c = λ l d. climb-start _ _ _ _ _ _ d
 pub read-inside-sub-p : (t : ℕ) → read-inside-lts.Need-sub-p (read-inside-claims t) (read-inside-at t) read-inside.Post read-inside-Inv-loop read-inside-μ-loop
 read-inside-sub-p t c = omega (arith, c .loop-test .taken)
 
-pub read-inside-shared-slice-read-dot-role : (t : ℕ) → read-inside-lts.Need-shared-slice-read-dot-role (read-inside-claims t) (read-inside-at t) read-inside.Post read-inside-Inv-loop read-inside-μ-loop
-read-inside-shared-slice-read-dot-role t c = omega (arith, c .before .loop-test .taken, (c .before .before .loop .inv _ (c .before .before .before .before .before .descend .ensures)) .inside)
+pub read-inside-shared-slice-read-form-role : (t : ℕ) → read-inside-lts.Need-shared-slice-read-form-role (read-inside-claims t) (read-inside-at t) read-inside.Post read-inside-Inv-loop read-inside-μ-loop
+read-inside-shared-slice-read-form-role t c = omega (arith, c .before .loop-test .taken, (c .before .before .loop .inv _ (c .before .before .before .before .before .descend .ensures)) .inside)
 
-pub read-inside-dot-role-requires : (t : ℕ) → read-inside-lts.Need-dot-role-requires (read-inside-claims t) (read-inside-at t) read-inside.Post read-inside-Inv-loop read-inside-μ-loop
-read-inside-dot-role-requires t c κs = c .before .before .before .before .before .before .before .before .before .pre .1 .form _
+pub read-inside-form-role-requires : (t : ℕ) → read-inside-lts.Need-form-role-requires (read-inside-claims t) (read-inside-at t) read-inside.Post read-inside-Inv-loop read-inside-μ-loop
+read-inside-form-role-requires t c κs = c .before .before .before .before .before .before .before .before .before .pre .1 .form _
 
 pub read-inside-enum-told : (t : ℕ) → read-inside-lts.Need-enum-told (read-inside-claims t) (read-inside-at t) read-inside.Post read-inside-Inv-loop read-inside-μ-loop
 read-inside-enum-told t c = c .match .keys1
 
 pub read-inside-sub-m : (t : ℕ) → read-inside-lts.Need-sub-m (read-inside-claims t) (read-inside-at t) read-inside.Post read-inside-Inv-loop read-inside-μ-loop
-read-inside-sub-m t c = climb-dot _ _ _ _ (c .before .before .before .before .before .loop .inv _ (c .before .before .before .before .before .before .before .before .descend .ensures)) (c .before .before .before .before .loop-test .taken) (sym (c .before .before .dot-role .ensures) ∙ c .enum-told .given .1) .0
+read-inside-sub-m t c = climb-dot _ _ _ _ (c .before .before .before .before .before .loop .inv _ (c .before .before .before .before .before .before .before .before .descend .ensures)) (c .before .before .before .before .loop-test .taken) (sym (c .before .before .form-role .ensures) ∙ c .enum-told .given .1) .0
 
 pub read-inside-loop-less : (t : ℕ) → read-inside-lts.Need-loop-less (read-inside-claims t) (read-inside-at t) read-inside.Post read-inside-Inv-loop read-inside-μ-loop
 read-inside-loop-less t c = omega (arith, c .before .before .before .before .loop-test .taken)
 
 pub read-inside-loop-again : (t : ℕ) → read-inside-lts.Need-loop-again (read-inside-claims t) (read-inside-at t) read-inside.Post read-inside-Inv-loop read-inside-μ-loop
-read-inside-loop-again t c = λ l d. climb-dot _ _ _ _ (c .before .before .before .before .before .loop .inv l d) (c .before .before .before .before .loop-test .taken) (sym (c .before .before .dot-role .ensures) ∙ c .enum-told .given .1) .1
+read-inside-loop-again t c = λ l d. climb-dot _ _ _ _ (c .before .before .before .before .before .loop .inv l d) (c .before .before .before .before .loop-test .taken) (sym (c .before .before .form-role .ensures) ∙ c .enum-told .given .1) .1
 
 pub read-inside-closes-requires : (t : ℕ) → read-inside-lts.Need-closes-requires (read-inside-claims t) (read-inside-at t) read-inside.Post read-inside-Inv-loop read-inside-μ-loop
 read-inside-closes-requires t c κs = c .before .before .before .before .before .before .before .before .before .before .before .pre .1 .form
@@ -66,13 +66,13 @@ pub read-inside-loop-less-2 : (t : ℕ) → read-inside-lts.Need-loop-less-2 (re
 read-inside-loop-less-2 t c = omega (arith, c .before .before .before .before .before .before .before .before .before .before .loop-test .taken)
 
 pub read-inside-loop-again-2 : (t : ℕ) → read-inside-lts.Need-loop-again-2 (read-inside-claims t) (read-inside-at t) read-inside.Post read-inside-Inv-loop read-inside-μ-loop
-read-inside-loop-again-2 t c = λ l d. climb-closed _ _ _ _ (c .before .before .before .before .before .before .before .before .before .before .before .loop .inv l d) (c .before .before .before .before .before .before .before .before .before .before .loop-test .taken) (climb-opens _ _ _ _ (c .before .before .before .before .before .before .before .before .before .before .before .loop .inv l d) (c .before .before .before .before .before .before .before .before .before .before .loop-test .taken) _ (c .before .before .before .before .before .before .before .before .dot-role .ensures) (c .before .before .before .before .before .before .before .match .keys2)) (sym (c .before .before .before .before .before .before .closes .ensures) ∙ c .before .before .before .before .before .if1 .taken) _ _ (c .before .before .read-rest .ensures) (c .before .before .read-rest .kept .1 .1 .1 .0 ∙ simp length-set (c .before .before .before .before .before .before .before .before .before .before .before .loop .inv l d .kept))
+read-inside-loop-again-2 t c = λ l d. climb-closed _ _ _ _ (c .before .before .before .before .before .before .before .before .before .before .before .loop .inv l d) (c .before .before .before .before .before .before .before .before .before .before .loop-test .taken) (climb-opens _ _ _ _ (c .before .before .before .before .before .before .before .before .before .before .before .loop .inv l d) (c .before .before .before .before .before .before .before .before .before .before .loop-test .taken) _ (c .before .before .before .before .before .before .before .before .form-role .ensures) (c .before .before .before .before .before .before .before .match .keys2)) (sym (c .before .before .before .before .before .before .closes .ensures) ∙ c .before .before .before .before .before .if1 .taken) _ _ (c .before .before .read-rest .ensures) (c .before .before .read-rest .kept .1 .1 .1 .0 ∙ simp length-set (c .before .before .before .before .before .before .before .before .before .before .before .loop .inv l d .kept))
 
 pub read-inside-loop-less-3 : (t : ℕ) → read-inside-lts.Need-loop-less-3 (read-inside-claims t) (read-inside-at t) read-inside.Post read-inside-Inv-loop read-inside-μ-loop
 read-inside-loop-less-3 t c = omega (arith, c .before .before .before .before .before .loop-test .taken)
 
 pub read-inside-loop-again-3 : (t : ℕ) → read-inside-lts.Need-loop-again-3 (read-inside-claims t) (read-inside-at t) read-inside.Post read-inside-Inv-loop read-inside-μ-loop
-read-inside-loop-again-3 t c = λ l d. climb-stuck _ _ _ _ (c .before .before .before .before .before .before .loop .inv l d) (c .before .before .before .before .before .loop-test .taken) (climb-opens _ _ _ _ (c .before .before .before .before .before .before .loop .inv l d) (c .before .before .before .before .before .loop-test .taken) _ (c .before .before .before .dot-role .ensures) (c .before .before .match .keys2)) (sym (c .before .closes .ensures) ∙ c .if1 .left)
+read-inside-loop-again-3 t c = λ l d. climb-stuck _ _ _ _ (c .before .before .before .before .before .before .loop .inv l d) (c .before .before .before .before .before .loop-test .taken) (climb-opens _ _ _ _ (c .before .before .before .before .before .before .loop .inv l d) (c .before .before .before .before .before .loop-test .taken) _ (c .before .before .before .form-role .ensures) (c .before .before .match .keys2)) (sym (c .before .closes .ensures) ∙ c .if1 .left)
 
 pub read-inside-same-length : (t : ℕ) → read-inside-lts.Need-same-length (read-inside-claims t) (read-inside-at t) read-inside.Post read-inside-Inv-loop read-inside-μ-loop
 read-inside-same-length t c = (c .before .loop .inv _ (c .before .before .before .before .descend .ensures)) .kept

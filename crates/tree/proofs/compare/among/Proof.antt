@@ -1,7 +1,7 @@
--- `tree::dot_bracket::among` meets its contract.
+-- `tree::compare::among` meets its contract.
 use borrow.Author.Needs.{needs}
-use Rattle.tree.proofs.dot_bracket.among.Statement.{statement}
-use Rattle.tree.proofs.dot_bracket.among.Tie as tie
+use Rattle.tree.proofs.compare.among.Statement.{statement}
+use Rattle.tree.proofs.compare.among.Tie as tie
 
 either-requires : tie.Need-either-requires
 either-requires c κs = search needs

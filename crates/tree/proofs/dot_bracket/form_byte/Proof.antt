@@ -1,8 +1,8 @@
--- `tree::dot_bracket::dot_byte` meets its contract.
+-- `tree::dot_bracket::form_byte` meets its contract.
 use borrow.Author.Needs.{needs}
 use Rattle.tree.proofs.DotBrackets.{compared-role}
-use Rattle.tree.proofs.dot_bracket.dot_byte.Statement.{statement}
-use Rattle.tree.proofs.dot_bracket.dot_byte.Tie as tie
+use Rattle.tree.proofs.dot_bracket.form_byte.Statement.{statement}
+use Rattle.tree.proofs.dot_bracket.form_byte.Tie as tie
 
 among-requires : tie.Need-among-requires
 among-requires c κs = search needs
@@ -35,8 +35,8 @@ returns c =
     rw (c .pick3 .ensures, c .before .pick2 .ensures, c .before .before .pick .ensures, compared .among3 .ensures, compared .before .among2 .ensures, unpaired .either2 .ensures, unpaired .before .either .ensures, unpaired .before .before .among .ensures)
     (compared-role (unpaired .before .before .before .args .byte))
 
-pub dot-byte-spec : {M : Type 1} → statement M
-dot-byte-spec =
+pub form-byte-spec : {M : Type 1} → statement M
+form-byte-spec =
     tie.close
     (tie.spec
     among-requires
