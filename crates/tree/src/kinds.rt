@@ -9,7 +9,7 @@ ghost use Prim.Native.Nat.{_-_, _≤_};
 ghost use lib.ListN.{length};
 ghost use Rattle.character.specs.Character.{kindOf};
 ghost use Rattle.tree.specs.Reading.{lastIs, firstOtherKind};
-ghost use Rattle.tree.specs.inner.Building.{opened, Formed};
+ghost use Rattle.tree.specs.inner.Building.{openKinds, Formed};
 
 // The kind of a bracket, by number, and 0 of what is none, found by comparing alone.
 fn kind_of(byte: u8) -> u8
@@ -25,7 +25,7 @@ fn kind_of(byte: u8) -> u8
 // Whether the last of the brackets that are open is of a kind. Where none is, there is no partner of another kind.
 fn last_is(kinds: &[u8; 256], depth: usize, kind: u8) -> bool
     requires { ⌜ depth ≤ 256 ⌝ }
-    ensures { λ r. ⌜ r ≡ lastIs kind (opened (now (kinds .entry)) depth) ⌝ }
+    ensures { λ r. ⌜ r ≡ lastIs kind (openKinds (now (kinds .entry)) depth) ⌝ }
 {
     if depth == 0 {
         return true;

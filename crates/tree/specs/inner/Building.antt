@@ -108,6 +108,6 @@ pub record Formed (s form : List ℕ) : Type 0 where
   pub is : form ≡ dotBracketOf s
 
 -- The kinds of so many open brackets, that of the last one first, out of an array that has it last.
-abbrev pub opened : List ℕ → ℕ → List ℕ
-opened kinds zero = []
-opened kinds (suc d) = getD kinds d 0 ∷ opened kinds d
+abbrev pub openKinds : List ℕ → ℕ → List ℕ
+openKinds kinds zero = []
+openKinds kinds (suc d) = getD kinds d 0 ∷ openKinds kinds d

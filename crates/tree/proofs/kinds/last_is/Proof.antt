@@ -4,7 +4,7 @@ use Prim.Native.Nat.{suc, _-_}
 use native.Mathlib.Omega.{arith}
 use borrow.Author.Needs.{needs}
 use Rattle.tree.specs.Reading.{lastIs}
-use Rattle.tree.specs.inner.Building.{opened}
+use Rattle.tree.specs.inner.Building.{openKinds}
 use Rattle.tree.proofs.kinds.last_is.Statement.{statement}
 use Rattle.tree.proofs.kinds.last_is.Tie as tie
 
@@ -21,7 +21,7 @@ returns-2 : tie.Need-returns-2
 returns-2 c =
     let args = c .before .before .args in
     let more : suc (args .depth - 1) ≡ args .depth = omega (arith, c .before .if1 .left) in
-    ap (λ d. lastIs (args .kind) (opened (args .kinds .now) d)) more
+    ap (λ d. lastIs (args .kind) (openKinds (args .kinds .now) d)) more
 
 pub last-is-spec : {M : Type 1} → statement M
 last-is-spec = tie.close (tie.spec returns sub-result element-copy-out-result returns-2)
