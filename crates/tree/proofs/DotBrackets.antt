@@ -18,10 +18,10 @@ use Rattle.character.specs.declared.Role.{Role}
 use Rattle.character.specs.declared.Role.the-variants.{Unpaired, Opening, Closing, Refused}
 use Rattle.tree.specs.Run.{Run, spell, size, leftsFrom}
 use Rattle.tree.specs.Run.Run.{end, dot, pair}
-use Rattle.tree.specs.Reading.{Runs, first, onto, runs, orNext, firstRefused, groundAt, stopped, blindReading, passKind, firstOtherKind, Reading, readOf, treeOf}
+use Rattle.tree.specs.Reading.{formByte, dotBracketOf, Runs, first, onto, runs, orNext, firstRefused, groundAt, stopped, blindReading, passKind, firstOtherKind, Reading, readOf, treeOf}
 use Rattle.tree.specs.Reading.Runs.{last, more}
 use Rattle.tree.specs.Reading.Reading.{textAccepted, textRefused}
-use Rattle.tree.specs.inner.DotBracket.{SameRole, SameRoles, isDotBracket, inDotBracket, isAmong, formByte, dotBracketOf}
+use Rattle.tree.specs.inner.DotBracket.{SameRole, SameRoles, isDotBracket, inDotBracket, isAmong}
 use Rattle.tree.specs.declared.Tree.{Tree}
 
 and-assoc : (a b c : Bool) → (a && (b && c)) ≡ ((a && b) && c)

@@ -142,7 +142,7 @@ text-decides s = go (badLength (length s)) refl
         (lt-or-le (firstRefused s) (length s))
 
 -- The text of every run that is not too long is accepted with that run.
-spell-known : (r : Run) → Meant r → length (spell r) ≤ firstRefused (spell r)
+pub spell-known : (r : Run) → Meant r → length (spell r) ≤ firstRefused (spell r)
 spell-known r m = ⊎-elim
     (λ h. let w = refused-there (spell r) h in absurd (placed-clean (w .front) (w .byte) (w .back) (placed r m (w .front) (w .byte) (w .back) (w .split)) (w .unknown)))
     (λ h. h)

@@ -15,4 +15,5 @@ pub mod Passing
 pub mod Examples
 pub mod Grounds
 pub mod Trees
+pub mod SameTree
 pub mod Nodes

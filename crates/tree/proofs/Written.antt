@@ -14,9 +14,9 @@ use Rattle.answer.specs.declared.Ground.the-variants.{UnknownByte, ClosesOtherK
 use Rattle.answer.specs.Answer.{isAccepted}
 use Rattle.character.specs.Character.{roleOf}
 use Rattle.character.specs.declared.Role.{Role}
-use Rattle.tree.specs.Reading.{Reading, readOf, firstRefused, blindReading, firstOtherKind, withKinds}
+use Rattle.tree.specs.Reading.{formByte, dotBracketOf, Reading, readOf, firstRefused, blindReading, firstOtherKind, withKinds}
 use Rattle.tree.specs.Reading.Reading.{textAccepted, textRefused}
-use Rattle.tree.specs.inner.DotBracket.{SameRoles, inDotBracket, formByte, dotBracketOf}
+use Rattle.tree.specs.inner.DotBracket.{SameRoles, inDotBracket}
 use Rattle.tree.specs.inner.Building.{Known, Formed}
 use Rattle.tree.specs.declared.TreeRead.{TreeRead}
 use Rattle.tree.proofs.DotBrackets.{dots-form, dots-known, dots-kinds, form-in, form-length, form-keeps-role, form-other, form-blind}

@@ -2,7 +2,7 @@
 use mathlib.Core.Path.{_≡_}
 use mathlib.Core.Bool.{Bool, true, cond}
 use Prim.Native.Nat.{ℕ, suc, _+_, _-_, _≤_}
-use mathlib.Core.List.{List, [], _∷_, _++_}
+use mathlib.Core.List.{List, [], _∷_, _++_, map}
 use lib.ListN.{length, getD, take, replicate}
 use lib.Dec.{eqb, ltb}
 use Rattle.answer.specs.declared.Ground.{Ground}
@@ -68,6 +68,16 @@ pub record IsTree (t : Tree) : Type 0 where
   pub run : Run
   pub few : size run ≤ 255
   pub is : t ≡ treeOf run
+
+-- A text written in dot-bracket form (document 01): what is unpaired as a dot, a bracket as a round one, and what is refused as byte 0, which is too.
+abbrev pub formByte : Role → ℕ
+formByte Unpaired = 46
+formByte Opening = 40
+formByte Closing = 41
+formByte Refused = 0
+
+abbrev pub dotBracketOf : List ℕ → List ℕ
+dotBracketOf s = map (λ (b : ℕ). formByte (roleOf b)) s
 
 -- Reading a text, computed.
 

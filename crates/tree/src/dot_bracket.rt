@@ -8,7 +8,8 @@ ghost use mathlib.Core.Path.{_≡_};
 ghost use Prim.Native.Nat.{_≤_};
 ghost use lib.ListN.{length, take};
 ghost use Rattle.character.specs.Character.{roleOf};
-ghost use Rattle.tree.specs.inner.DotBracket.{SameRole, isDotBracket, inDotBracket, formByte, dotBracketOf};
+ghost use Rattle.tree.specs.Reading.{formByte, dotBracketOf};
+ghost use Rattle.tree.specs.inner.DotBracket.{SameRole, isDotBracket, inDotBracket};
 
 // The role of a byte of such a text. Few bytes are told apart, so that each costs little where it is read.
 pub fn form_role(byte: u8) -> Role

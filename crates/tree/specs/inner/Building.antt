@@ -9,10 +9,10 @@ use lib.Seq.{sets}
 use Rattle.tree.specs.Run.{Run, spell, size, leftsFrom}
 use Rattle.tree.specs.Run.Run.{end, dot, pair}
 use Rattle.character.specs.Character.{roleOf}
-use Rattle.tree.specs.Reading.{first, runs, firstRefused}
+use Rattle.tree.specs.Reading.{dotBracketOf, first, runs, firstRefused}
 use Rattle.character.specs.declared.Role.{Role}
 use Rattle.character.specs.declared.Role.the-variants.{Unpaired, Opening, Closing, Refused}
-use Rattle.tree.specs.inner.DotBracket.{SameRoles, dotBracketOf}
+use Rattle.tree.specs.inner.DotBracket.{SameRoles}
 use Rattle.tree.specs.declared.run.ReadTo.{ReadTo}
 
 -- The run that is read from a byte of a text on.

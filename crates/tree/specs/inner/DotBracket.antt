@@ -2,7 +2,7 @@
 use mathlib.Core.Path.{_≡_}
 use mathlib.Core.Bool.{Bool, true, cond, _&&_, _||_}
 use Prim.Native.Nat.{ℕ}
-use mathlib.Core.List.{List, [], _∷_, map}
+use mathlib.Core.List.{List, [], _∷_}
 use lib.ListN.{getD}
 use lib.Dec.{eqb}
 use Rattle.character.specs.Character.{roleOf}
@@ -31,13 +31,3 @@ inDotBracket (c ∷ s) = isDotBracket c && inDotBracket s
 -- Whether a byte is one of four.
 abbrev pub isAmong : ℕ → ℕ → ℕ → ℕ → ℕ → Bool
 isAmong x a b c d = (eqb x a || eqb x b) || (eqb x c || eqb x d)
-
--- The byte that plays a role in dot-bracket form, and the text in it. Byte 0 is refused.
-abbrev pub formByte : Role → ℕ
-formByte Unpaired = 46
-formByte Opening = 40
-formByte Closing = 41
-formByte Refused = 0
-
-abbrev pub dotBracketOf : List ℕ → List ℕ
-dotBracketOf s = map (λ (b : ℕ). formByte (roleOf b)) s
