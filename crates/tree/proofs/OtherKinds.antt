@@ -1,10 +1,9 @@
 -- Ground 24: the first closing bracket of a run's text whose partner is of another kind.
-use mathlib.Core.Path.{_≡_, refl, sym, ap, ap₂, subst, _∙_}
+use mathlib.Core.Path.{_≡_, refl, sym, ap, subst, _∙_}
 use mathlib.Core.Bool.{Bool, true, false, cond}
 use mathlib.Core.Logic.{_⊎_, inl, inr, ⊎-elim}
 use Prim.Native.Nat.{ℕ, suc, _+_, _≤_, _<_}
 use native.Mathlib.Omega.{arith}
-use native.Mathlib.Nat.{add-zero}
 use mathlib.Core.List.{List, [], _∷_, _++_, append-assoc, append-nil, nil≢cons, head-eq-of-cons-eq, tail-eq-of-cons-eq}
 use lib.ListN.{length, length-append}
 use lib.Dec.{eqb}
@@ -16,7 +15,7 @@ use Rattle.character.specs.declared.Role.{Role}
 use Rattle.character.specs.declared.Role.the-variants.{Unpaired, Opening, Closing}
 use Rattle.tree.specs.Run.{Run, spell}
 use Rattle.tree.specs.Run.Run.{end, dot, pair}
-use Rattle.tree.specs.Reading.{Meant, OneKind, lastIs, withoutLast, passKind, firstOtherKind}
+use Rattle.tree.specs.Reading.{Meant, OneKind, passKind, firstOtherKind}
 use Rattle.tree.specs.Grounds.{Closes, ClosesOtherKindAt}
 use Rattle.tree.proofs.Spelling.{read-spell}
 use Rattle.tree.proofs.Partners.{cut, closes-more, placed, placed-closed, not-closed}

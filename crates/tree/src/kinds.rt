@@ -6,7 +6,6 @@ use character::Role;
 ghost use mathlib.Core.Path.{_≡_};
 ghost use mathlib.Core.List.{[]};
 ghost use Prim.Native.Nat.{_-_, _≤_};
-ghost use lib.ListN.{length};
 ghost use Rattle.character.specs.Character.{kindOf};
 ghost use Rattle.tree.specs.Reading.{lastIs, firstOtherKind};
 ghost use Rattle.tree.specs.inner.Building.{openKinds, Formed};
