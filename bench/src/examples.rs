@@ -51,7 +51,7 @@ pub fn two_seeds() -> Vec<u8> {
     join(A, B, &DECK)
 }
 
-/// The same with A and B written in all kinds of brackets and five unpaired marks.
+/// The same with A and B written in all kinds of brackets and five unpaired characters.
 pub fn two_seeds_in_wuss() -> Vec<u8> {
     join(b"<_[-]>:", b"{~}(,)", &DECK)
 }

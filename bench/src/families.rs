@@ -3,7 +3,7 @@
 use crate::inputs::{draft_on, join, must_read, plain_deck, rising, some_score, Draft};
 use crate::random::Random;
 use crate::reference::Pair;
-use crate::texts::{comb_of, in_all_marks, nest_of, structure};
+use crate::texts::{comb_of, in_all_characters, nest_of, structure};
 
 /// Inputs of one kind at several sizes.
 pub struct Family {
@@ -88,9 +88,9 @@ fn comb_in_wuss(random: &mut Random, seeds: usize) -> Vec<u8> {
     row_of_seeds(random, in_wuss(&comb_of(85)), seeds, false)
 }
 
-/// The marks have a start of their own, so that the seeds are those of the same text in plain form.
+/// The characters have a start of their own, so that the seeds are those of the same text in dot-bracket form.
 fn in_wuss(text: &[u8]) -> Vec<u8> {
-    in_all_marks(&mut Random::new(1), text)
+    in_all_characters(&mut Random::new(1), text)
 }
 
 /// A random structure, with seeds of up to four pairs.

@@ -4,7 +4,7 @@ use crate::examples::{files_in_wuss, on_empty_texts, two_seeds, two_seeds_in_wus
 use crate::inputs::{full_deck, join, must_read, plain_deck, texts_of};
 use crate::random::Random;
 use crate::reference::{read_tree, Pair};
-use crate::texts::{in_all_marks, nest_of, other_kinds, texts_over, CLOSINGS, OPENINGS};
+use crate::texts::{in_all_characters, nest_of, other_kinds, texts_over, CLOSINGS, OPENINGS};
 
 /// The inputs at the limits, every change of one byte and every cut of small ones, every change of a
 /// bracket of larger ones, and given texts.
@@ -92,7 +92,7 @@ fn given_texts() -> Vec<Vec<u8>> {
     texts.extend(texts_over(b"<>()[]{}", 4));
     for deep in [
         nest_of(127),
-        in_all_marks(&mut Random::new(1), &nest_of(127)),
+        in_all_characters(&mut Random::new(1), &nest_of(127)),
     ] {
         texts.extend(unlike_partners(&deep));
     }

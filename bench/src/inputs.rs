@@ -3,7 +3,7 @@
 
 use crate::random::Random;
 use crate::reference::{read_tree, Pair, Tree};
-use crate::texts::{damage_text, in_some_marks, some_texts};
+use crate::texts::{damage_text, in_some_characters, some_texts};
 
 /// What an input is made from: two texts, and seeds as scores with pairs.
 #[derive(Clone)]
@@ -217,10 +217,10 @@ fn valid_draft(random: &mut Random) -> Draft {
     };
     let style = random.pick(&[0, 0, 1, 1, 1, 2, 2, 3, 4, 4, 5, 6, 7, 7]);
     let mut draft = draft_on(random, q, t, seeds, most, style);
-    // Seeds hang on the trees alone, so that other marks leave them valid.
+    // Seeds hang on the trees alone, so that other characters leave them valid.
     if random.chance(60) {
-        draft.q = in_some_marks(random, &draft.q);
-        draft.t = in_some_marks(random, &draft.t);
+        draft.q = in_some_characters(random, &draft.q);
+        draft.t = in_some_characters(random, &draft.t);
     }
     draft
 }

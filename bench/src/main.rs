@@ -16,7 +16,7 @@ use library::Library;
 use random::Random;
 use std::collections::BTreeMap;
 use std::process::exit;
-use texts::{is_plain, kinds_in};
+use texts::{in_dot_bracket, kinds_in};
 
 /// The refusals that the printed lines can name, as they are counted.
 const REFUSALS: [&str; 20] = [
@@ -122,7 +122,7 @@ impl Checker {
         let met = [
             texts.iter().any(|text| text.is_empty()),
             texts.iter().any(|text| kinds_in(text) > 1),
-            texts.iter().all(|text| is_plain(text)),
+            texts.iter().all(|text| in_dot_bracket(text)),
         ];
         (0..met.len()).for_each(|at| self.accepted[at] += met[at] as usize);
     }

@@ -5,7 +5,7 @@ use crate::random::Random;
 /// An opening bracket and the closing one of its kind stand at the same place.
 pub const OPENINGS: [u8; 4] = *b"<([{";
 pub const CLOSINGS: [u8; 4] = *b">)]}";
-const MARKS: [u8; 6] = *b".,:_-~";
+const UNPAIRED: [u8; 6] = *b".,:_-~";
 
 /// A structure of just this length; `open` and `close` are chances in a hundred.
 pub fn structure(random: &mut Random, length: usize, open: usize, close: usize) -> Vec<u8> {
@@ -78,8 +78,8 @@ pub fn some_texts(random: &mut Random) -> (Vec<u8>, Vec<u8>) {
 }
 
 /// A structure of dots and round brackets with each pair and each dot written anew, in some of the
-/// kinds and of the unpaired marks.
-fn written_in(random: &mut Random, text: &[u8], kinds: &[usize], marks: &[u8]) -> Vec<u8> {
+/// kinds and of the unpaired characters.
+fn written_in(random: &mut Random, text: &[u8], kinds: &[usize], unpaired: &[u8]) -> Vec<u8> {
     let mut open = Vec::new();
     let byte_for = |byte: &u8| match byte {
         b'(' => {
@@ -88,23 +88,23 @@ fn written_in(random: &mut Random, text: &[u8], kinds: &[usize], marks: &[u8]) -
             OPENINGS[kind]
         }
         b')' => CLOSINGS[open.pop().expect("a structure closes what is open")],
-        _ => random.pick(marks),
+        _ => random.pick(unpaired),
     };
     text.iter().map(byte_for).collect()
 }
 
-/// In all kinds of brackets and all unpaired marks.
-pub fn in_all_marks(random: &mut Random, text: &[u8]) -> Vec<u8> {
-    written_in(random, text, &[0, 1, 2, 3], &MARKS)
+/// In all kinds of brackets and all unpaired characters.
+pub fn in_all_characters(random: &mut Random, text: &[u8]) -> Vec<u8> {
+    written_in(random, text, &[0, 1, 2, 3], &UNPAIRED)
 }
 
 /// Mostly in all of them, else in few.
-pub fn in_some_marks(random: &mut Random, text: &[u8]) -> Vec<u8> {
-    let (mut kinds, mut marks) = ([0, 1, 2, 3], MARKS);
+pub fn in_some_characters(random: &mut Random, text: &[u8]) -> Vec<u8> {
+    let (mut kinds, mut unpaired) = ([0, 1, 2, 3], UNPAIRED);
     random.shuffle(&mut kinds);
-    random.shuffle(&mut marks);
-    let (few_kinds, few_marks) = (random.pick(&[1, 2, 4, 4]), random.pick(&[1, 2, 6, 6]));
-    written_in(random, text, &kinds[..few_kinds], &marks[..few_marks])
+    random.shuffle(&mut unpaired);
+    let (few_kinds, few_unpaired) = (random.pick(&[1, 2, 4, 4]), random.pick(&[1, 2, 6, 6]));
+    written_in(random, text, &kinds[..few_kinds], &unpaired[..few_unpaired])
 }
 
 /// How many kinds of brackets open in a text.
@@ -113,7 +113,7 @@ pub fn kinds_in(text: &[u8]) -> usize {
 }
 
 /// Whether a text has nothing but dots and round brackets.
-pub fn is_plain(text: &[u8]) -> bool {
+pub fn in_dot_bracket(text: &[u8]) -> bool {
     text.iter().all(|byte| b".()".contains(byte))
 }
 
@@ -148,7 +148,7 @@ pub fn other_kinds(byte: u8) -> Vec<u8> {
 
 // ---- damage: grounds 1 to 4 and 24 ----
 
-/// Letters, control characters, and what lies next to the bytes that have a meaning.
+/// Letters, control characters, and what lies next to the bytes that are not refused.
 const REFUSED: &[u8] = b"aABzZuG \0\r\t\xFF\x7F\x80'*+/;=@\\^`|";
 
 pub fn damage_text(random: &mut Random, text: &mut Vec<u8>) {

@@ -1,4 +1,4 @@
--- Every byte is one of the fourteen that have a meaning, or none of them.
+-- Every byte is one of the fourteen that are not refused, or none of them.
 use mathlib.Core.Path.{_≡_, refl, sym, subst}
 use mathlib.Core.Bool.{Bool, true, false}
 use Prim.Native.Nat.{ℕ}

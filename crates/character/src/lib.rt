@@ -47,7 +47,7 @@ pub fn meaning_of(byte: u8) -> Meaning
     }
 }
 
-pub fn role_of(meaning: Meaning) -> Role
+pub fn role_in(meaning: Meaning) -> Role
     ensures { λ r. ⌜ r ≡ roleIn meaning ⌝ }
 {
     match meaning {

@@ -10,7 +10,6 @@ use table::empty;
 use texts::read_both;
 use tree::Tree;
 use tree::single_tree;
-ghost use mathlib.Core.Path.{_≡_};
 ghost use Rattle.tree.specs.Reading.{IsTree};
 ghost use Rattle.dealing.specs.Deal.{refusedWith, DealsOn, Deals, AsDealt};
 

@@ -5,7 +5,7 @@ use answer::Place;
 use answer::refused;
 use character::Role;
 use character::meaning_of;
-use character::role_of;
+use character::role_in;
 use tree::read;
 ghost use mathlib.Core.Path.{_≡_};
 ghost use Prim.Native.Nat.{_≤_, _<_};
@@ -56,7 +56,7 @@ fn count_byte(c: Scan, a: usize, byte: u8) -> Scan
     requires { ⌜ (c .at < 4096) × (c .nodes < 4096) × (c .width < 4096) ⌝ }
     ensures { λ r. ⌜ r ≡ counted a byte c ⌝ }
 {
-    let role = role_of(meaning_of(byte));
+    let role = role_in(meaning_of(byte));
     let nodes = c.nodes + ends_of(role);
     if c.nodes < a {
         return Scan {

@@ -10,7 +10,7 @@ pub struct Verdict {
     pub at: usize,
 }
 
-// Where a byte stands among the fourteen that are not refused: the brackets, each closing one behind its opening one, and the unpaired marks.
+// Where a byte stands among the fourteen that are not refused: the brackets, each closing one behind its opening one, and the unpaired characters.
 fn rank(byte: u8) -> usize {
     find(b"()<>[]{}.,:_-~", 0, byte, byte)
 }

@@ -1,5 +1,5 @@
 // A fixed generator of numbers, the random inputs that it draws, and random texts and stretches held to the brute force.
-mod letters;
+mod characters;
 pub mod lists;
 pub mod samples;
 pub mod stretches;

@@ -1,10 +1,10 @@
 // Random texts.
+use super::characters::any;
+use super::characters::closing;
+use super::characters::closing_of;
+use super::characters::opening;
+use super::characters::unpaired;
 use super::draw;
-use super::letters::any;
-use super::letters::closing;
-use super::letters::closing_of;
-use super::letters::mark;
-use super::letters::opening;
 use test_brute::texts::closes;
 use test_brute::texts::deeper;
 use test_brute::texts::opens;
@@ -70,7 +70,7 @@ fn letter(state: &mut u64, depth: usize, left: usize) -> u8 {
 }
 
 // A random structure of 0 to 10 bytes, in dots and round brackets.
-fn plain_structure(state: &mut u64) -> Sample {
+fn dot_bracket_structure(state: &mut u64) -> Sample {
     let len = draw(state, 11);
     let mut s = empty();
     let mut depth = 0;
@@ -87,7 +87,7 @@ fn opened_by(bytes: [u8; 12], n: usize, k: usize) -> usize {
     partner(part(&bytes, 0, n), k)
 }
 
-// Another byte for the one at a place: any unpaired mark, any opening bracket, or the closing bracket of the one that it closes.
+// Another byte for the one at a place: any unpaired character, any opening bracket, or the closing bracket of the one that it closes.
 fn another(s: Sample, k: usize, state: &mut u64) -> u8 {
     let byte = letter_at(s, k);
     if opens(byte) {
@@ -97,10 +97,10 @@ fn another(s: Sample, k: usize, state: &mut u64) -> u8 {
         let bytes = s.bytes;
         return closing_of(letter_at(s, opened_by(bytes, s.len, k)));
     }
-    mark(state)
+    unpaired(state)
 }
 
-// The same structure in other marks and other kinds of brackets. They are drawn apart, so that nothing else that is drawn hangs on them.
+// The same structure in other characters and other kinds of brackets. They are drawn apart, so that nothing else that is drawn hangs on them.
 pub fn respelled(structure: Sample, seed: u64) -> Sample {
     let mut state = seed / 2;
     let mut s = structure;
@@ -112,8 +112,8 @@ pub fn respelled(structure: Sample, seed: u64) -> Sample {
 
 // A random structure of 0 to 10 bytes.
 pub fn structure(state: &mut u64) -> Sample {
-    let plain = plain_structure(state);
-    respelled(plain, *state)
+    let form = dot_bracket_structure(state);
+    respelled(form, *state)
 }
 
 // A closing bracket at a place becomes, one time in three, one of any kind.

@@ -167,10 +167,7 @@ form-keeps-role [] i = refl
 form-keeps-role (c ∷ s) zero = role-kept (roleOf c)
 form-keeps-role (c ∷ s) (suc i) = form-keeps-role s i
 
--- A text whose form is dots and round brackets has no refused byte, and any other has one.
-pub form-dots : (s : List ℕ) → inDotBracket (dotBracketOf s) ≡ true → length s ≤ firstRefused s
-form-dots s h = omega (arith, dots-known (dotBracketOf s) h, form-length s, form-refused s)
-
+-- A text whose form is not dots and round brackets alone has a refused byte.
 pub form-other : (s : List ℕ) → inDotBracket (dotBracketOf s) ≡ false → firstRefused s < length s
 form-other [] h = absurd (true≢false h)
 form-other (c ∷ s) h = go (roleOf c) h (form-other s)

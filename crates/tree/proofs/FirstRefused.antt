@@ -36,7 +36,7 @@ module _ (s : List ℕ) (i : ℕ) where
     pub refused-later : (tag m ≡ 0) ⊎ ((tag m ≡ 1) ⊎ (tag m ≡ 2)) → firstRefused s ≡ i + 1 + firstRefused (drop (i + 1) s)
     refused-later h = let z : firstRefused (drop i s) ≡ suc (firstRefused (drop (i + 1) s)) = refused-step ∙ next-of m h (firstRefused (drop (i + 1) s)) in omega arith
 
--- By the grounds: the first byte that has no meaning, or that there is none.
+-- By the grounds: the first refused byte, or that there is none.
 next-le : (m : Role) (n : ℕ) → orNext m n ≤ suc n
 next-le Unpaired n = omega arith
 next-le Opening n = omega arith

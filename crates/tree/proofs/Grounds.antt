@@ -141,7 +141,7 @@ text-decides s = go (badLength (length s)) refl
         (known-decides s h)
         (lt-or-le (firstRefused s) (length s))
 
--- The text of every run that is not too long is accepted with that run.
+-- No byte of a run's text is refused.
 pub spell-known : (r : Run) → Meant r → length (spell r) ≤ firstRefused (spell r)
 spell-known r m = ⊎-elim
     (λ h. let w = refused-there (spell r) h in absurd (placed-clean (w .front) (w .byte) (w .back) (placed r m (w .front) (w .byte) (w .back) (w .split)) (w .unknown)))
@@ -152,6 +152,7 @@ one-accepted : (r : Run) → OneKind r → (fits : badLength (length (spell r)) 
 one-accepted r one fits known (alike same nowhere h) = same-kinds (spell r) fits known r refl h
 one-accepted r one fits known (differ two w h) = absurd (two one)
 
+-- The text of every run that is not too long and whose pairs are each of one kind is accepted with that run.
 pub read-accepts : (r : Run) → Meant r → OneKind r → badLength (length (spell r)) ≡ false → reading (spell r) ≡ textAccepted r
 read-accepts r m one fits =
     let known = spell-known r m in

@@ -43,15 +43,15 @@ unlike-none one (past-dot w) = unlike-none one w
 no-open-inside : (r q : Run) → Meant r → Meant q → (t : List ℕ) (x : ℕ) → roleOf x ≡ Opening → spell r ≡ t ++ x ∷ spell q → ⊥
 no-open-inside r q mr mq t x opens e = not-closed (spell q) q (read-spell q mq) (placed-closed t x (spell q) (placed r mr t x (spell q) e) opens)
 
-one-partner : (p : List ℕ) (v w : Closes p) → v .byte ≡ w .byte
+pub one-partner : (p : List ℕ) (v w : Closes p) → (v .ahead ≡ w .ahead) × (v .byte ≡ w .byte)
 one-partner p v w = ⊎-elim
     (λ u. absurd (no-open-inside (w .run) (v .run) (w .meant) (v .meant) (u .0) (v .byte) (v .opens) (u .2)))
-    (λ u. go (u .0) (u .2))
+    (λ u. go (u .0) (u .1) (u .2))
     (cut (v .ahead) (v .byte ∷ spell (v .run)) (w .ahead) (w .byte) (spell (w .run)) (sym (v .split) ∙ w .split))
   where
-    go : (t : List ℕ) → v .byte ∷ spell (v .run) ≡ t ++ w .byte ∷ spell (w .run) → v .byte ≡ w .byte
-    go [] e = head-eq-of-cons-eq e
-    go (x ∷ t) e = absurd (no-open-inside (v .run) (w .run) (v .meant) (w .meant) t (w .byte) (w .opens) (tail-eq-of-cons-eq e))
+    go : (t : List ℕ) → w .ahead ≡ v .ahead ++ t → v .byte ∷ spell (v .run) ≡ t ++ w .byte ∷ spell (w .run) → (v .ahead ≡ w .ahead) × (v .byte ≡ w .byte)
+    go [] f e = (sym (f ∙ append-nil (v .ahead)), head-eq-of-cons-eq e)
+    go (x ∷ t) f e = absurd (no-open-inside (v .run) (w .run) (v .meant) (w .meant) t (w .byte) (w .opens) (tail-eq-of-cons-eq e))
 
 -- One place on.
 one-on : (P : ℕ → Type 0) {k : ℕ} → P (suc k) → P (1 + k)
@@ -61,8 +61,8 @@ one-back : (P : ℕ → Type 0) {k : ℕ} → P (1 + k) → P (suc k)
 one-back P {k} h = let e : 1 + k ≡ suc k = omega arith in subst P e h
 
 -- What is said of a text holds of it with bytes before and behind it.
-within : (a b : List ℕ) {s : List ℕ} {k : ℕ} → ClosesOtherKindAt s k → ClosesOtherKindAt (a ++ (s ++ b)) (length a + k)
-within a b w =
+around : (a b : List ℕ) {s : List ℕ} {k : ℕ} → ClosesOtherKindAt s k → ClosesOtherKindAt (a ++ (s ++ b)) (length a + k)
+around a b w =
     record {
       front = a ++ w .front;
       byte = w .byte;
@@ -87,16 +87,16 @@ unlike-closes (pair o i c r) m (own h) =
       partner = record { ahead = []; byte = o; run = i; split = refl; opens = m .0; meant = m .1 };
       other = h;
     }
-unlike-closes (pair o i c r) m (inside w) = one-back (ClosesOtherKindAt (spell (pair o i c r))) (within (o ∷ []) (c ∷ spell r) (unlike-closes i (m .1) w))
+unlike-closes (pair o i c r) m (inside w) = one-back (ClosesOtherKindAt (spell (pair o i c r))) (around (o ∷ []) (c ∷ spell r) (unlike-closes i (m .1) w))
 unlike-closes (pair o i c r) m (past-pair {k = k} w) =
     let at : length (o ∷ (spell i ++ c ∷ [])) + k ≡ suc (length (spell i) + suc k) = omega (arith, length-append (spell i) (c ∷ [])) in
     let all : o ∷ (spell i ++ c ∷ []) ++ (spell r ++ []) ≡ o ∷ (spell i ++ c ∷ spell r) = cc (append-nil (spell r), append-assoc (spell i) (c ∷ []) (spell r)) in
-    subst (ClosesOtherKindAt (spell (pair o i c r))) at (subst (λ (s : List ℕ). ClosesOtherKindAt s (length (o ∷ (spell i ++ c ∷ [])) + k)) all (within (o ∷ (spell i ++ c ∷ [])) [] (unlike-closes r (m .3) w)))
-unlike-closes (dot c r) m (past-dot {k = k} w) = one-back (ClosesOtherKindAt (spell (dot c r))) (subst (λ (s : List ℕ). ClosesOtherKindAt (c ∷ s) (1 + k)) (append-nil (spell r)) (within (c ∷ []) [] (unlike-closes r (m .1) w)))
+    subst (ClosesOtherKindAt (spell (pair o i c r))) at (subst (λ (s : List ℕ). ClosesOtherKindAt s (length (o ∷ (spell i ++ c ∷ [])) + k)) all (around (o ∷ (spell i ++ c ∷ [])) [] (unlike-closes r (m .3) w)))
+unlike-closes (dot c r) m (past-dot {k = k} w) = one-back (ClosesOtherKindAt (spell (dot c r))) (subst (λ (s : List ℕ). ClosesOtherKindAt (c ∷ s) (1 + k)) (append-nil (spell r)) (around (c ∷ []) [] (unlike-closes r (m .1) w)))
 
 -- A closing byte of a run's text has a partner of its own kind, or its pair is of two kinds.
-abbrev Kept : Run → List ℕ → ℕ → Type 0
-Kept r p c = (w : Closes p) × ((kindOf (w .byte) ≡ kindOf c) ⊎ Unlike r (length p))
+abbrev KindOrUnlike : Run → List ℕ → ℕ → Type 0
+KindOrUnlike r p c = (w : Closes p) × ((kindOf (w .byte) ≡ kindOf c) ⊎ Unlike r (length p))
 
 kinds-of : (o c : ℕ) → (kindOf o ≡ kindOf c) ⊎ (kindOf o ≡ kindOf c → ⊥)
 kinds-of o c = go (eqb (kindOf o) (kindOf c)) refl
@@ -105,39 +105,39 @@ kinds-of o c = go (eqb (kindOf o) (kindOf c)) refl
     go true e = inl (eqb-true (kindOf o) (kindOf c) e)
     go false e = inr (eqb-false (kindOf o) (kindOf c) e)
 
-kept-more : {r q : Run} (x p : List ℕ) (c : ℕ) → ((k : ℕ) → Unlike r k → Unlike q (length x + k)) → Kept r p c → Kept q (x ++ p) c
-kept-more {q = q} x p c on w = (closes-more x p (w .0), ⊎-elim (λ e. inl e) (λ u. inr (subst (Unlike q) (sym (length-append x p)) (on (length p) u))) (w .1))
+kind-more : {r q : Run} (x p : List ℕ) (c : ℕ) → ((k : ℕ) → Unlike r k → Unlike q (length x + k)) → KindOrUnlike r p c → KindOrUnlike q (x ++ p) c
+kind-more {q = q} x p c on w = (closes-more x p (w .0), ⊎-elim (λ e. inl e) (λ u. inr (subst (Unlike q) (sym (length-append x p)) (on (length p) u))) (w .1))
 
 -- After the run inside a pair: the pair's own closing byte, or a byte of the rest.
-kept-after : (i r : Run) (o d : ℕ) → roleOf o ≡ Opening → Meant i → ((t : List ℕ) (c : ℕ) (q : List ℕ) → spell r ≡ t ++ c ∷ q → roleOf c ≡ Closing → Kept r t c) → (t : List ℕ) (c : ℕ) (q : List ℕ) → d ∷ spell r ≡ t ++ c ∷ q → roleOf c ≡ Closing → Kept (pair o i d r) (o ∷ (spell i ++ t)) c
-kept-after i r o d mo mi rec [] c q e mc =
+kind-after : (i r : Run) (o d : ℕ) → roleOf o ≡ Opening → Meant i → ((t : List ℕ) (c : ℕ) (q : List ℕ) → spell r ≡ t ++ c ∷ q → roleOf c ≡ Closing → KindOrUnlike r t c) → (t : List ℕ) (c : ℕ) (q : List ℕ) → d ∷ spell r ≡ t ++ c ∷ q → roleOf c ≡ Closing → KindOrUnlike (pair o i d r) (o ∷ (spell i ++ t)) c
+kind-after i r o d mo mi rec [] c q e mc =
     let same : kindOf d ≡ kindOf c = ap kindOf (head-eq-of-cons-eq e) in
-    subst (λ (l : List ℕ). Kept (pair o i d r) (o ∷ l) c) (sym (append-nil (spell i)))
+    subst (λ (l : List ℕ). KindOrUnlike (pair o i d r) (o ∷ l) c) (sym (append-nil (spell i)))
     (record { ahead = []; byte = o; run = i; split = refl; opens = mo; meant = mi }, ⊎-elim (λ f. inl (f ∙ same)) (λ n. inr (own n)) (kinds-of o d))
-kept-after i r o d mo mi rec (y ∷ t) c q e mc =
+kind-after i r o d mo mi rec (y ∷ t) c q e mc =
     let at : (k : ℕ) → suc (length (spell i) + suc k) ≡ length (o ∷ (spell i ++ y ∷ [])) + k = λ k. omega (arith, length-append (spell i) (y ∷ [])) in
-    subst (λ (l : List ℕ). Kept (pair o i d r) (o ∷ l) c) (append-assoc (spell i) (y ∷ []) t)
-    (kept-more (o ∷ (spell i ++ y ∷ [])) t c (λ k u. subst (Unlike (pair o i d r)) (at k) (past-pair u)) (rec t c q (tail-eq-of-cons-eq e) mc))
+    subst (λ (l : List ℕ). KindOrUnlike (pair o i d r) (o ∷ l) c) (append-assoc (spell i) (y ∷ []) t)
+    (kind-more (o ∷ (spell i ++ y ∷ [])) t c (λ k u. subst (Unlike (pair o i d r)) (at k) (past-pair u)) (rec t c q (tail-eq-of-cons-eq e) mc))
 
-kept : (r : Run) → Meant r → (p : List ℕ) (c : ℕ) (q : List ℕ) → spell r ≡ p ++ c ∷ q → roleOf c ≡ Closing → Kept r p c
-kept end m [] c q e mc = absurd (nil≢cons e)
-kept end m (x ∷ p) c q e mc = absurd (nil≢cons e)
-kept (dot d r) m [] c q e mc = let f = ap roleOf (head-eq-of-cons-eq e) in let g = m .0 in clash (cc)
-kept (dot d r) m (x ∷ p) c q e mc = kept-more (x ∷ []) p c (λ k u. one-on (Unlike (dot d r)) (past-dot u)) (kept r (m .1) p c q (tail-eq-of-cons-eq e) mc)
-kept (pair o i d r) m [] c q e mc = let f = ap roleOf (head-eq-of-cons-eq e) in let g = m .0 in clash (cc)
-kept (pair o i d r) m (x ∷ p) c q e mc =
-    subst (λ (y : ℕ). Kept (pair o i d r) (y ∷ p) c) (head-eq-of-cons-eq e)
+kind-at : (r : Run) → Meant r → (p : List ℕ) (c : ℕ) (q : List ℕ) → spell r ≡ p ++ c ∷ q → roleOf c ≡ Closing → KindOrUnlike r p c
+kind-at end m [] c q e mc = absurd (nil≢cons e)
+kind-at end m (x ∷ p) c q e mc = absurd (nil≢cons e)
+kind-at (dot d r) m [] c q e mc = let f = ap roleOf (head-eq-of-cons-eq e) in let g = m .0 in clash (cc)
+kind-at (dot d r) m (x ∷ p) c q e mc = kind-more (x ∷ []) p c (λ k u. one-on (Unlike (dot d r)) (past-dot u)) (kind-at r (m .1) p c q (tail-eq-of-cons-eq e) mc)
+kind-at (pair o i d r) m [] c q e mc = let f = ap roleOf (head-eq-of-cons-eq e) in let g = m .0 in clash (cc)
+kind-at (pair o i d r) m (x ∷ p) c q e mc =
+    subst (λ (y : ℕ). KindOrUnlike (pair o i d r) (y ∷ p) c) (head-eq-of-cons-eq e)
     (⊎-elim
-    (λ u. kept-more (o ∷ []) p c (λ k v. one-on (Unlike (pair o i d r)) (inside v)) (kept i (m .1) p c (u .0) (u .1) mc))
-    (λ u. subst (λ (l : List ℕ). Kept (pair o i d r) (o ∷ l) c) (sym (u .1)) (kept-after i r o d (m .0) (m .1) (kept r (m .3)) (u .0) c q (u .2) mc))
+    (λ u. kind-more (o ∷ []) p c (λ k v. one-on (Unlike (pair o i d r)) (inside v)) (kind-at i (m .1) p c (u .0) (u .1) mc))
+    (λ u. subst (λ (l : List ℕ). KindOrUnlike (pair o i d r) (o ∷ l) c) (sym (u .1)) (kind-after i r o d (m .0) (m .1) (kind-at r (m .3)) (u .0) c q (u .2) mc))
     (cut (spell i) (d ∷ spell r) p c q (tail-eq-of-cons-eq e)))
 
 -- A closing bracket with a partner of another kind is that of a pair of two kinds, since it has one partner.
 closes-unlike : (r : Run) → Meant r → {k : ℕ} → ClosesOtherKindAt (spell r) k → Unlike r k
 closes-unlike r m w =
-    let v = kept r m (w .front) (w .byte) (w .back) (w .split) (w .closing) in
+    let v = kind-at r m (w .front) (w .byte) (w .back) (w .split) (w .closing) in
     ⊎-elim
-    (λ e. absurd (w .other (ap kindOf (one-partner (w .front) (w .partner) (v .0)) ∙ e)))
+    (λ e. absurd (w .other (ap kindOf (one-partner (w .front) (w .partner) (v .0) .1) ∙ e)))
     (λ u. subst (Unlike r) (w .place) u)
     (v .1)
 

@@ -2,7 +2,8 @@
 use Prim.Native.Nat.{ℕ, suc, _+_}
 use mathlib.Core.List.{List, [], _∷_, _++_}
 
--- A run of items: the end, a dot and the rest of the run, or a bracket pair around a run and the rest. Each item keeps its own bytes.
+-- A run of items: the end, a dot and the rest of the run, or a bracket pair around a run and the rest. A dot is any unpaired character, and a bracket
+-- one of any kind (document 02, b). Each item keeps its own bytes.
 pub data Run : Type 0 where
   end : Run
   dot : ℕ → Run → Run

@@ -1,4 +1,4 @@
-// Tests without a branch, so that a loop over them takes many bytes in one step.
+// Tests, and a choice by one, that need no branch: so a loop over them takes many bytes in one step.
 ghost use mathlib.Core.Path.{_≡_};
 ghost use mathlib.Core.Bool.{cond, _&&_, _||_};
 ghost use Rattle.tree.specs.inner.DotBracket.{isAmong};

@@ -91,7 +91,8 @@ fn kinds_refused(answer: Answer, other: usize, len: usize) -> bool
     }
 }
 
-// The same of any text, or grounds 2, 3 and 4 and then 24: it is read in dot-bracket form, which has its roles and not its kinds.
+// The same of any text, or grounds 2, 3 and 4 and then 24: it is read in dot-bracket form, which has its roles and not its kinds. The kinds are
+// passed whatever 3 and 4 say, and count only if they say nothing.
 fn read_written(text: &[u8]) -> TreeRead
     requires { ⌜ length (now text) ≤ 255 ⌝ }
     ensures { λ r. ⌜ r ≡ readOf (withKinds (now (text .entry)) (blindReading (now (text .entry)))) ⌝ }
@@ -111,7 +112,7 @@ fn read_written(text: &[u8]) -> TreeRead
     read
 }
 
-// The tree of a text, or the first refusal with its byte and the tree of ".". Most texts are in dot-bracket form already.
+// The tree of a text, or the first refusal with its byte and the tree of ".". A text in dot-bracket form needs no copy, and has brackets of one kind.
 pub fn read(text: &[u8]) -> TreeRead
     ensures { λ r. ⌜ r ≡ readOf (reading (now (text .entry))) ⌝ }
 {

@@ -1,7 +1,7 @@
 // Ground 2: the first refused byte of a text.
 use character::Role;
 use character::meaning_of;
-use character::role_of;
+use character::role_in;
 ghost use mathlib.Core.Path.{_≡_};
 ghost use Rattle.tree.specs.Reading.{firstRefused};
 
@@ -11,7 +11,7 @@ pub fn first_refused(text: &[u8]) -> usize
 {
     let mut i = 0;
     while i < text.len() {
-        let role = role_of(meaning_of(text[i]));
+        let role = role_in(meaning_of(text[i]));
         match role {
             Role::Refused => return i,
             _ => {}

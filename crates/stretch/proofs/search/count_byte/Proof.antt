@@ -10,14 +10,14 @@ use Rattle.stretch.proofs.search.count_byte.Tie as tie
 meaning-of-requires : tie.Need-meaning-of-requires
 meaning-of-requires c κs = search needs
 
-role-of-requires : tie.Need-role-of-requires
-role-of-requires c κs = search needs
+role-in-requires : tie.Need-role-in-requires
+role-in-requires c κs = search needs
 
 ends-of-requires : tie.Need-ends-of-requires
 ends-of-requires c κs = search needs
 
 add-nodes : tie.Need-add-nodes
-add-nodes c = omega (arith, (c .before .ends-of .ensures), one-end (c .before .before .role-of .result))
+add-nodes c = omega (arith, (c .before .ends-of .ensures), one-end (c .before .before .role-in .result))
 
 add-t9 : tie.Need-add-t9
 add-t9 c = search needs
@@ -25,7 +25,7 @@ add-t9 c = search needs
 returns : tie.Need-returns
 returns c =
     let role = c .before .before .before .before .before in
-    count-low _ _ (role .before .before .args .byte) _ (role .role-of .ensures ∙ ap roleIn (role .before .meaning-of .ensures)) _ (c .before .before .before .before .ends-of .ensures) (c .before .if1 .taken)
+    count-low _ _ (role .before .before .args .byte) _ (role .role-in .ensures ∙ ap roleIn (role .before .meaning-of .ensures)) _ (c .before .before .before .before .ends-of .ensures) (c .before .if1 .taken)
 
 add-t7 : tie.Need-add-t7
 add-t7 c = search needs
@@ -35,20 +35,20 @@ bytes-of-requires c κs = search needs
 
 add-t11 : tie.Need-add-t11
 add-t11 c =
-    let m = c .before .before .before .before .before .before .before .role-of .result in
+    let m = c .before .before .before .before .before .before .before .role-in .result in
     omega (arith, c .before .bytes-of .ensures, one-end m, two-bytes m)
 
 returns-2 : tie.Need-returns-2
 returns-2 c =
     let role = c .before .before .before .before .before .before .before in
-    count-high _ _ (role .before .before .args .byte) _ (role .role-of .ensures ∙ ap roleIn (role .before .meaning-of .ensures)) _ (c .before .before .before .before .before .before .ends-of .ensures) (c .before .before .before .if1 .left) _ (c .before .bytes-of .ensures)
+    count-high _ _ (role .before .before .args .byte) _ (role .role-in .ensures ∙ ap roleIn (role .before .meaning-of .ensures)) _ (c .before .before .before .before .before .before .ends-of .ensures) (c .before .before .before .if1 .left) _ (c .before .bytes-of .ensures)
 
 pub count-byte-spec : {M : Type 1} → statement M
 count-byte-spec =
     tie.close
     (tie.spec
     meaning-of-requires
-    role-of-requires
+    role-in-requires
     ends-of-requires
     add-nodes
     add-t9

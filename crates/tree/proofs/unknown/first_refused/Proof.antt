@@ -24,8 +24,8 @@ shared-slice-read-meaning-of c = c .before .loop-test .taken
 meaning-of-requires : tie.Need-meaning-of-requires Inv-loop μ-loop
 meaning-of-requires c κs = tt
 
-role-of-requires : tie.Need-role-of-requires Inv-loop μ-loop
-role-of-requires c κs = tt
+role-in-requires : tie.Need-role-in-requires Inv-loop μ-loop
+role-in-requires c κs = tt
 
 enum-told : tie.Need-enum-told Inv-loop μ-loop
 enum-told c = c .match .keys1
@@ -33,7 +33,7 @@ enum-told c = c .match .keys1
 returns : tie.Need-returns Inv-loop μ-loop
 returns c =
     let test = c .before .before .before .before .before in
-    refused-here _ _ (test .loop-test .taken) (c .before .before .role-of .result) (c .before .before .role-of .ensures ∙ ap roleIn (c .before .before .before .meaning-of .ensures)) (test .before .loop .inv .1) (c .enum-told .given .1)
+    refused-here _ _ (test .loop-test .taken) (c .before .before .role-in .result) (c .before .before .role-in .ensures ∙ ap roleIn (c .before .before .before .meaning-of .ensures)) (test .before .loop .inv .1) (c .enum-told .given .1)
 
 add-i : tie.Need-add-i Inv-loop μ-loop
 add-i c = omega (arith, c .before .before .before .before .loop-test .taken)
@@ -45,7 +45,7 @@ loop-again : tie.Need-loop-again Inv-loop μ-loop
 loop-again c =
     let test = c .before .before .before .before in (
       omega (arith, test .loop-test .taken),
-      refused-later _ _ (test .loop-test .taken) (c .before .role-of .result) (c .before .role-of .ensures ∙ ap roleIn (c .before .before .meaning-of .ensures)) (test .before .loop .inv .1) (c .match .keys2),
+      refused-later _ _ (test .loop-test .taken) (c .before .role-in .result) (c .before .role-in .ensures ∙ ap roleIn (c .before .before .meaning-of .ensures)) (test .before .loop .inv .1) (c .match .keys2),
     )
 
 returns-2 : tie.Need-returns-2 Inv-loop μ-loop
@@ -60,7 +60,7 @@ first-refused-spec =
     loop-holds
     shared-slice-read-meaning-of
     meaning-of-requires
-    role-of-requires
+    role-in-requires
     enum-told
     returns
     add-i

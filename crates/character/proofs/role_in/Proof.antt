@@ -1,9 +1,9 @@
--- `character::role_of` meets its contract: each arm knows which meaning it has.
+-- `character::role_in` meets its contract: each arm knows which meaning it has.
 use mathlib.Core.Path.{sym, ap}
 use borrow.Author.Needs.{needs}
 use Rattle.character.specs.Character.{roleIn}
-use Rattle.character.proofs.role_of.Statement.{statement}
-use Rattle.character.proofs.role_of.Tie as tie
+use Rattle.character.proofs.role_in.Statement.{statement}
+use Rattle.character.proofs.role_in.Tie as tie
 
 enum-told : tie.Need-enum-told
 enum-told c = search needs
@@ -65,8 +65,8 @@ returns-9 c = sym (ap roleIn (c .enum-told9 .given .1))
 returns-10 : tie.Need-returns-10
 returns-10 c = sym (ap roleIn (c .enum-told10 .given .1))
 
-pub role-of-spec : {M : Type 1} → statement M
-role-of-spec =
+pub role-in-spec : {M : Type 1} → statement M
+role-in-spec =
     tie.close
     (tie.spec
     enum-told

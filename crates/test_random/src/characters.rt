@@ -2,8 +2,8 @@
 use super::draw;
 use test_words::plain::byte_at;
 
-// An unpaired mark.
-pub fn mark(state: &mut u64) -> u8 {
+// An unpaired character.
+pub fn unpaired(state: &mut u64) -> u8 {
     byte_at(b".,:_-~", draw(state, 6))
 }
 
@@ -36,7 +36,7 @@ fn refused(state: &mut u64) -> u8 {
 pub fn any(state: &mut u64) -> u8 {
     let pick = draw(state, 19);
     if pick < 6 {
-        return mark(state);
+        return unpaired(state);
     }
     if pick < 12 {
         return opening(state);
