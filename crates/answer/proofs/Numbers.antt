@@ -6,13 +6,13 @@ use mathlib.Core.List.{List, [], _∷_}
 use lib.ListN.{getD}
 use Rattle.answer.specs.Answer.{numberOf, said}
 use Rattle.answer.specs.declared.Ground.{Ground}
-use Rattle.answer.specs.declared.Ground.the-variants.{TextLength, UnknownByte, ClosesNothing, NeverClosed, DeckLayout, PairIndex, PairReachedTwice, PairNeverReached, NumberNotGiven, PresenceAsAsked, ScoreRange, NoPairs, SeedLimit, PairLimit, OutsideTree, NotRising, AncestryDiffers, LastNotAncestor, BorderUnpaired, ChangeLimit, ScratchShort, OutputShort, ClosesOtherKind}
+use Rattle.answer.specs.declared.Ground.the-variants.{TextLength, UnknownByte, ClosesNothing, NeverClosed, DeckLayout, PairIndex, PairReachedTwice, PairNeverReached, NumberNotGiven, PresenceAsAsked, ScoreRange, NoPairs, SeedLimit, PairLimit, OutsideTree, NotRising, AncestryDiffers, LastNotAncestor, BorderUnpaired, ChangeLimit, ScratchShort, OutputShort, ClosesOtherKind, UnlikeNodes}
 use Rattle.answer.specs.declared.Answer.{Answer}
 use Rattle.answer.specs.declared.Answer.the-variants.{Accepted, Refused}
 
 -- The grounds at their numbers; no ground has number 0 or 23.
 abbrev grounds : List Ground
-grounds = TextLength ∷ TextLength ∷ UnknownByte ∷ ClosesNothing ∷ NeverClosed ∷ DeckLayout ∷ PairIndex ∷ PairReachedTwice ∷ PairNeverReached ∷ NumberNotGiven ∷ PresenceAsAsked ∷ ScoreRange ∷ NoPairs ∷ SeedLimit ∷ PairLimit ∷ OutsideTree ∷ NotRising ∷ AncestryDiffers ∷ LastNotAncestor ∷ BorderUnpaired ∷ ChangeLimit ∷ ScratchShort ∷ OutputShort ∷ TextLength ∷ ClosesOtherKind ∷ []
+grounds = TextLength ∷ TextLength ∷ UnknownByte ∷ ClosesNothing ∷ NeverClosed ∷ DeckLayout ∷ PairIndex ∷ PairReachedTwice ∷ PairNeverReached ∷ NumberNotGiven ∷ PresenceAsAsked ∷ ScoreRange ∷ NoPairs ∷ SeedLimit ∷ PairLimit ∷ OutsideTree ∷ NotRising ∷ AncestryDiffers ∷ LastNotAncestor ∷ BorderUnpaired ∷ ChangeLimit ∷ ScratchShort ∷ OutputShort ∷ TextLength ∷ ClosesOtherKind ∷ UnlikeNodes ∷ []
 
 abbrev groundOf : ℕ → Ground
 groundOf n = getD grounds n TextLength
@@ -41,6 +41,7 @@ numbered ChangeLimit = refl
 numbered ScratchShort = refl
 numbered OutputShort = refl
 numbered ClosesOtherKind = refl
+numbered UnlikeNodes = refl
 
 pub number-injective : (g h : Ground) → numberOf g ≡ numberOf h → g ≡ h
 number-injective g h e = sym (numbered g) ∙ ap groundOf e ∙ numbered h

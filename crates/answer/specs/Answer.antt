@@ -1,13 +1,13 @@
--- The numbered grounds for turning a call down (document 01, and 24 of document 02), and what an answer says by them.
+-- The numbered grounds for turning a call down (document 01, and 24 and 25 of document 02), and what an answer says by them.
 use mathlib.Core.Bool.{Bool, true, false}
 use Prim.Native.Nat.{ℕ}
 use Rattle.answer.specs.declared.Ground.{Ground}
-use Rattle.answer.specs.declared.Ground.the-variants.{TextLength, UnknownByte, ClosesNothing, NeverClosed, DeckLayout, PairIndex, PairReachedTwice, PairNeverReached, NumberNotGiven, PresenceAsAsked, ScoreRange, NoPairs, SeedLimit, PairLimit, OutsideTree, NotRising, AncestryDiffers, LastNotAncestor, BorderUnpaired, ChangeLimit, ScratchShort, OutputShort, ClosesOtherKind}
+use Rattle.answer.specs.declared.Ground.the-variants.{TextLength, UnknownByte, ClosesNothing, NeverClosed, DeckLayout, PairIndex, PairReachedTwice, PairNeverReached, NumberNotGiven, PresenceAsAsked, ScoreRange, NoPairs, SeedLimit, PairLimit, OutsideTree, NotRising, AncestryDiffers, LastNotAncestor, BorderUnpaired, ChangeLimit, ScratchShort, OutputShort, ClosesOtherKind, UnlikeNodes}
 use Rattle.answer.specs.declared.Place.{Place}
 use Rattle.answer.specs.declared.Answer.{Answer}
 use Rattle.answer.specs.declared.Answer.the-variants.{Accepted, Refused}
 
--- The number of a ground. The order in which a call meets its grounds is not that of their numbers: 24 comes after 4.
+-- The number of a ground. The order in which a call meets its grounds is not that of their numbers: 24 comes after 4, and 25 between 15 and 16.
 abbrev pub numberOf : Ground → ℕ
 -- A text has length above 255 (document 02, f, where 01 had 0 too).
 numberOf TextLength = 1
@@ -55,6 +55,8 @@ numberOf ScratchShort = 21
 numberOf OutputShort = 22
 -- A closing bracket has a partner of another kind (document 02, b).
 numberOf ClosesOtherKind = 24
+-- A pair is of unlike nodes (document 02, c).
+numberOf UnlikeNodes = 25
 
 -- What an answer says: the call is accepted, or it is refused on the ground of this number at this place.
 pub data Said : Type 0 where

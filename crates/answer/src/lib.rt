@@ -28,6 +28,7 @@ pub enum Ground {
     ScratchShort,
     OutputShort,
     ClosesOtherKind,
+    UnlikeNodes,
 }
 
 // Where a ground was met: a byte position of Q or of T, counted from 0, a seed number, or nowhere that could be named.
@@ -78,5 +79,6 @@ pub fn number(ground: Ground) -> usize
         Ground::ScratchShort => 21,
         Ground::OutputShort => 22,
         Ground::ClosesOtherKind => 24,
+        Ground::UnlikeNodes => 25,
     }
 }
