@@ -18,11 +18,13 @@ use Rattle.character.specs.declared.Role.{Role}
 use Rattle.character.specs.declared.Role.the-variants.{Unpaired, Opening, Closing, Refused}
 use Rattle.tree.specs.Run.{Run, spell, size, leftsFrom}
 use Rattle.tree.specs.Run.Run.{end, dot, pair}
+use Rattle.tree.specs.NodeKind.{itemKinds}
 use Rattle.tree.specs.Reading.{formByte, dotBracketOf, Runs, first, onto, runs, orNext, firstRefused, groundAt, stopped, blindReading, passKind, firstOtherKind, Reading, readOf, treeOf}
 use Rattle.tree.specs.Reading.Runs.{last, more}
 use Rattle.tree.specs.Reading.Reading.{textAccepted, textRefused}
 use Rattle.tree.specs.inner.DotBracket.{SameRole, SameRoles, isDotBracket, inDotBracket, isAmong}
 use Rattle.tree.specs.declared.Tree.{Tree}
+use Rattle.tree.proofs.NodeKinds.{kindsIn, item-kinds-in}
 
 and-assoc : (a b c : Bool) → (a && (b && c)) ≡ ((a && b) && c)
 and-assoc true b c = refl
@@ -178,7 +180,7 @@ form-other (c ∷ s) h = go (roleOf c) h (form-other s)
     go Closing e rest = omega (arith, rest e)
     go Refused e rest = omega arith
 
--- The runs of a text in dot-bracket form are its own with other bytes: as many nodes and bytes, and the same leftmost leaves.
+-- The runs of a text in dot-bracket form are its own with other bytes: as many nodes and bytes, the same leftmost leaves and the same kinds of nodes.
 abbrev inDots : Run → Run
 inDots end = end
 inDots (dot c r) = dot (formByte (roleOf c)) (inDots r)
@@ -223,8 +225,20 @@ leaves-kept b end = refl
 leaves-kept b (dot c r) = ap (λ (l : List ℕ). b ∷ l) (leaves-kept (suc b) r)
 leaves-kept b (pair o i c r) = ap₂ (λ (x y : List ℕ). x ++ b ∷ y) (leaves-kept b i) (ap (λ (n : ℕ). leftsFrom (b + suc n) (inDots r)) (nodes-kept i) ∙ leaves-kept (b + suc (size i)) r)
 
+kinds-in-kept : (r : Run) → kindsIn (inDots r) ≡ kindsIn r
+kinds-in-kept end = refl
+kinds-in-kept (dot c r) = ap (λ (l : List ℕ). 0 ∷ l) (kinds-in-kept r)
+kinds-in-kept (pair o i c r) = ap₂ (λ (x y : List ℕ). x ++ 1 ∷ y) (kinds-in-kept i) (kinds-in-kept r)
+
+kinds-kept : (r : Run) → itemKinds (inDots r) ≡ itemKinds r
+kinds-kept r = item-kinds-in (inDots r) ∙ kinds-in-kept r ∙ sym (item-kinds-in r)
+
 tree-kept : (r : Run) → treeOf (inDots r) ≡ treeOf r
-tree-kept r = ap₂ (λ (n : ℕ) (l : List ℕ). record { n = n + 1; left = (l ++ 0 ∷ []) ++ replicate (255 - n) 0 }) (nodes-kept r) (leaves-kept 0 r)
+tree-kept r =
+    let n = nodes-kept r in
+    let l = leaves-kept 0 r in
+    let k = kinds-kept r in
+    λ j. record { n = n j + 1; left = (l j ++ 0 ∷ []) ++ replicate (255 - n j) 0; kinds = k j ++ replicate (256 - n j) 0 }
 
 -- A text in dot-bracket form is read as it is itself, blind to kinds.
 form-stopped : (s : List ℕ) → readOf (stopped (dotBracketOf s) (first (runs (dotBracketOf s)))) ≡ readOf (stopped s (first (runs s)))

@@ -2,6 +2,7 @@ pub mod Leaves
 pub mod Roles
 pub mod Lengths
 pub mod FirstRefused
+pub mod NodeKinds
 pub mod DotBrackets
 pub mod Splits
 pub mod Growing
@@ -17,3 +18,4 @@ pub mod Grounds
 pub mod Trees
 pub mod SameTree
 pub mod Nodes
+pub mod Like

@@ -42,7 +42,7 @@ item-at (pair o i c r) k h = ⊎-elim
     (⊎-elim (λ m l. let w = item-at r (k - suc (size i)) (omega arith) in (past-pair (w .0), omega arith)) (λ m l. (the-pair, omega arith)) (lt-or-le (size i) k))
     (lt-or-le k (size i))
 
-node-at : (r : Run) (k : ℕ) → k ≤ size r → (x : Node r) × (number x ≡ k)
+pub node-at : (r : Run) (k : ℕ) → k ≤ size r → (x : Node r) × (number x ≡ k)
 node-at r k h = ⊎-elim (λ l. let w = item-at r k l in (item (w .0), w .1)) (λ l. (root, omega arith)) (lt-or-le k (size r))
 
 -- At an element of the list, the default does not matter.
@@ -57,10 +57,10 @@ getD-past xs ys k n d e = rw (← e) (getD-append-add xs ys n d)
 
 -- The items of a run, mapped, with something after them: what stands at an item's number, at the next one, and further on.
 module _ {A : Type 0} {r : Run} (f : Item r → A) where
-  length-mapped : length (map f (items r)) ≡ size r
+  pub length-mapped : length (map f (items r)) ≡ size r
   length-mapped = length-map (items r) f ∙ length-items r
 
-  mapped-item : (ys : List A) (d : A) (x : Item r) → getD (items r) (itemNumber x) x ≡ x → getD (map f (items r) ++ ys) (itemNumber x) d ≡ f x
+  pub mapped-item : (ys : List A) (d : A) (x : Item r) → getD (items r) (itemNumber x) x ≡ x → getD (map f (items r) ++ ys) (itemNumber x) d ≡ f x
   mapped-item ys d x e =
       let h : itemNumber x < length (map f (items r)) = omega (arith, length-mapped, item-below x) in
       List·getD-append (map f (items r)) ys d (itemNumber x) h
@@ -74,7 +74,7 @@ module _ {A : Type 0} {r : Run} (f : Item r → A) where
   mapped-past : (ys : List A) (n : ℕ) (d : A) → getD (map f (items r) ++ ys) (size r + n) d ≡ getD ys n d
   mapped-past ys n d = getD-past (map f (items r)) ys (size r) n d length-mapped
 
-item-stands : {r : Run} (x : Item r) → getD (items r) (itemNumber x) x ≡ x
+pub item-stands : {r : Run} (x : Item r) → getD (items r) (itemNumber x) x ≡ x
 item-stands the-dot = refl
 item-stands (the-pair {r = r}) = mapped-next inside the-pair (map past-pair (items r)) the-pair
 item-stands (inside {r = r} x) = mapped-item inside (the-pair ∷ map past-pair (items r)) (inside x) x (item-stands x)

@@ -5,8 +5,8 @@ use mathlib.Core.Logic.{_⊎_, ⊎-elim}
 use Prim.Native.Nat.{ℕ, zero, suc, _+_, _-_, _≤_, _<_}
 use native.Mathlib.Omega.{arith}
 use native.Mathlib.Nat.{zero-add, sub-zero}
-use mathlib.Core.List.{List, [], _∷_, _++_, append-assoc}
-use lib.ListN.{length, getD, drop, replicate, length-replicate, List·getD-eq-default}
+use mathlib.Core.List.{List, [], _∷_, _++_, append-assoc, append-nil}
+use lib.ListN.{length, getD, drop, replicate, length-append, length-replicate, List·getD-eq-default}
 use lib.Seq.{sets, sets-eq}
 use borrow.Author.Tests.{eq-eqb, ne-eqb, lt-ltb, le-ltb}
 use Rattle.answer.specs.declared.Ground.{Ground}
@@ -14,8 +14,9 @@ use Rattle.answer.specs.declared.Ground.the-variants.{TextLength, UnknownByte, 
 use Rattle.answer.specs.declared.Answer.the-variants.{Accepted}
 use Rattle.tree.specs.Run.{Run, spell, size, leftsFrom, lefts}
 use Rattle.character.specs.Character.{meaningOf, roleOf}
-use Rattle.tree.specs.Reading.{first, runs, firstRefused, badLength, groundAt, stopped, blindReading, withKinds, reading, readOf}
+use Rattle.tree.specs.Reading.{first, runs, firstRefused, badLength, groundAt, stopped, blindReading, withKinds, reading, readOf, treeOf}
 use Rattle.tree.specs.inner.Building.{Ready, OpensAt, RunRead, Known}
+use Rattle.tree.specs.inner.NodeKinds.{ShortForm, kindsRead}
 use Rattle.tree.specs.Reading.Reading.{textAccepted, textRefused}
 use Rattle.character.specs.declared.Role.{Role}
 use Rattle.character.specs.declared.Role.the-variants.{Unpaired, Opening, Closing, Refused}
@@ -24,7 +25,9 @@ use Rattle.tree.specs.declared.TreeRead.{TreeRead}
 use Rattle.answer.proofs.Denied.{clash}
 use Rattle.tree.proofs.Roles.{tag}
 use Rattle.tree.proofs.Leaves.{length-lefts}
-use Rattle.tree.proofs.Splits.{first-fits, size-spell}
+use Rattle.tree.proofs.NodeKinds.{kinds-spelled}
+use Rattle.tree.proofs.Splits.{splits, begins, first-fits, size-spell}
+use Rattle.tree.proofs.Spelling.{first-meant}
 
 abbrev pub zeros : ℕ → List ℕ
 zeros n = replicate n 0
@@ -56,8 +59,10 @@ ground-other Opening h = refl
 ground-other Closing h = absurd (⊎-elim (λ x. omega arith) (⊎-elim (λ x. omega arith) (λ x. omega arith)) h)
 ground-other Refused h = refl
 
-read-tree : (n n′ : ℕ) (l l′ : List ℕ) → n ≡ n′ → l ≡ l′ → _≡_ {A = TreeRead} (record { answer = Accepted; tree = record { n = n + 1; left = l } }) (record { answer = Accepted; tree = record { n = n′ + 1; left = l′ } })
-read-tree n n′ l l′ p q = λ j. record { answer = Accepted; tree = record { n = p j + 1; left = q j } }
+read-tree :
+    (n n′ : ℕ) (l l′ k k′ : List ℕ) → n ≡ n′ → l ≡ l′ → k ≡ k′
+    → _≡_ {A = TreeRead} (record { answer = Accepted; tree = record { n = n + 1; left = l; kinds = k } }) (record { answer = Accepted; tree = record { n = n′ + 1; left = l′; kinds = k′ } })
+read-tree n n′ l l′ k k′ p q e = λ j. record { answer = Accepted; tree = record { n = p j + 1; left = q j; kinds = e j } }
 
 module _ (s : List ℕ) where
   pub read-length : badLength (length s) ≡ true → reading s ≡ textRefused TextLength 0
@@ -84,6 +89,9 @@ module _ (s : List ℕ) where
       room = omega (arith, known .short, length-replicate {A = ℕ} 256 0);
     }
 
+    pub read-short-form : ShortForm s
+    read-short-form = record { form = known .form; short = known .short }
+
     module _ (x : ReadTo) (left : List ℕ) (is : RunRead s 0 0 (zeros 256) x left) where
       at-stop : x .at ≡ length (spell (first (runs s)))
       at-stop = is .passed ∙ zero-add (length (spell (first (runs s))))
@@ -97,11 +105,19 @@ module _ (s : List ℕ) where
       pub read-few : x .n ≤ 255
       read-few = omega (arith, is .counted, few)
 
-      pub read-all : x .at ≡ length s → _≡_ {A = TreeRead} (record { answer = Accepted; tree = record { n = x .n + 1; left = left } }) (readOf (blindReading s))
-      read-all e =
+      -- A text that is read to its end is that of its run.
+      spelled : x .at ≡ length s → s ≡ spell (first (runs s))
+      spelled e = let w = begins s (runs s) (splits s) in whole (w .0) (w .1)
+        where
+          whole : (t : List ℕ) → s ≡ spell (first (runs s)) ++ t → s ≡ spell (first (runs s))
+          whole [] f = f ∙ append-nil (spell (first (runs s)))
+          whole (c ∷ t) f = absurd (omega (arith, at-stop, ap length f, length-append (spell (first (runs s))) (c ∷ t)))
+
+      pub read-all : x .at ≡ length s → (kinds : List ℕ) → kinds ≡ kindsRead s → _≡_ {A = TreeRead} (record { answer = Accepted; tree = record { n = x .n + 1; left = left; kinds = kinds } }) (readOf (blindReading s))
+      read-all e kinds told =
           let r : Run = first (runs s) in
           let st : stopped s r ≡ textAccepted r = rw (eq-eqb (length (spell r)) (length s) (sym at-stop ∙ e)) in
-          read-tree (x .n) (size r) left (lefts r ++ zeros (255 - size r)) (is .counted ∙ zero-add (size r)) (is .written (end-opens s (x .at) e) ∙ padded 255 r few)
+          read-tree (x .n) (size r) left (lefts r ++ zeros (255 - size r)) kinds (treeOf r .kinds) (is .counted ∙ zero-add (size r)) (is .written (end-opens s (x .at) e) ∙ padded 255 r few) (told ∙ ap kindsRead (spelled e) ∙ kinds-spelled r (first-meant s))
           ∙ sym (ap readOf (blind-known (known .known) ∙ st))
 
       module _ (ne : x .at ≡ length s → ⊥) (m : Role) (means : m ≡ roleOf (getD s (x .at) 0)) where

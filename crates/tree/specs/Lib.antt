@@ -2,6 +2,7 @@
 pub mod Run
 pub mod Node
 pub mod Nested
+pub mod NodeKind
 pub mod Reading
 pub mod Grounds
 -- What only the contracts of inner functions cite.

@@ -3,7 +3,7 @@ use mathlib.Core.Path.{_≡_}
 use mathlib.Core.Bool.{Bool, true, cond}
 use Prim.Native.Nat.{ℕ, suc, _+_, _-_, _≤_}
 use mathlib.Core.List.{List, [], _∷_, _++_, map}
-use lib.ListN.{length, getD, take, replicate}
+use lib.ListN.{length, getD, set, take, replicate}
 use lib.Dec.{eqb, ltb}
 use Rattle.answer.specs.declared.Ground.{Ground}
 use Rattle.answer.specs.declared.Ground.the-variants.{TextLength, UnknownByte, ClosesNothing, NeverClosed, ClosesOtherKind}
@@ -15,6 +15,8 @@ use Rattle.character.specs.declared.Role.{Role}
 use Rattle.character.specs.declared.Role.the-variants.{Unpaired, Opening, Closing, Refused}
 use Rattle.tree.specs.Run.{Run, spell, size, lefts}
 use Rattle.tree.specs.Run.Run.{end, dot, pair}
+use Rattle.tree.specs.NodeKind.{kindNumber, itemKinds}
+use Rattle.tree.specs.NodeKind.NodeKind.{addedRoot}
 use Rattle.tree.specs.declared.Tree.{Tree}
 use Rattle.tree.specs.declared.TreeRead.{TreeRead}
 
@@ -47,9 +49,10 @@ abbrev pub textAnswer : Reading → Answer
 textAnswer (textAccepted r) = answer.Accepted
 textAnswer (textRefused g k) = answer.Refused g (ByteInQ k)
 
--- The tree of a run: its nodes and the added root, and zeros up to 256 numbers.
+-- The tree of a run: its nodes and the added root, their leftmost leaves, and the kinds of all but the root, which is the last; both with zeros up to
+-- 256 numbers.
 abbrev pub treeOf : Run → Tree
-treeOf r = record { n = size r + 1; left = lefts r ++ replicate (255 - size r) 0 }
+treeOf r = record { n = size r + 1; left = lefts r ++ replicate (255 - size r) 0; kinds = itemKinds r ++ replicate (256 - size r) 0 }
 
 -- The run that the text "." spells: its tree stands beside a refusal.
 abbrev pub single : Run
@@ -62,6 +65,13 @@ readOf (textRefused g k) = record { answer = textAnswer (textRefused g k); tree 
 -- The leftmost leaves of a tree's nodes.
 abbrev pub leavesOf : Tree → List ℕ
 leavesOf t = take (t .n) (t .left)
+
+-- The kinds of a tree's nodes, by number, that of the added root among them, which is the last; and the kind of node i.
+abbrev pub nodeKindsOf : Tree → List ℕ
+nodeKindsOf t = set (t .kinds) (t .n - 1) (kindNumber addedRoot)
+
+abbrev pub nodeKindAt : Tree → ℕ → ℕ
+nodeKindAt t i = getD (nodeKindsOf t) i 0
 
 -- A tree that a reading hands over.
 pub record IsTree (t : Tree) : Type 0 where

@@ -2,6 +2,7 @@
 mod compare;
 mod dot_bracket;
 mod kinds;
+mod node_kinds;
 mod run;
 mod unknown;
 
@@ -13,6 +14,7 @@ use dot_bracket::dot_bracket;
 use dot_bracket::form_role;
 use dot_bracket::in_dot_bracket;
 use kinds::first_other_kind;
+use node_kinds::node_kinds;
 use run::read_run;
 use unknown::first_refused;
 ghost use mathlib.Core.Path.{_≡_};
@@ -21,13 +23,15 @@ ghost use Prim.Native.Nat.{_≤_};
 ghost use lib.ListN.{length};
 ghost use lib.Dec.{ltb};
 ghost use Rattle.answer.specs.Answer.{isAccepted};
-ghost use Rattle.tree.specs.Reading.{Reading, badLength, blindReading, withKinds, reading, readOf, treeOf, single};
+ghost use Rattle.tree.specs.Reading.{Reading, badLength, blindReading, withKinds, reading, readOf, treeOf, single, nodeKindsOf, IsTree};
 ghost use Rattle.tree.specs.inner.Building.{Known};
 
-// The nodes of a structure, numbered from 0 in postfix order: how many, and the leftmost leaf of each.
+// The nodes of a structure, numbered from 0 in postfix order: how many, the leftmost leaf of each, and the kind of each below the added root, 0 an
+// unpaired base and 1 a base pair. The added root is the last.
 pub struct Tree {
     pub n: usize,
     pub left: [u8; 256],
+    pub kinds: [u8; 256],
 }
 
 pub struct TreeRead {
@@ -48,7 +52,18 @@ pub fn single_tree() -> Tree
     Tree {
         n: 2,
         left: [0u8; 256],
+        kinds: [0u8; 256],
     }
+}
+
+// The kinds of all nodes of a tree, with 2 for the added root.
+pub fn kinds_with_root(tree: Tree) -> [u8; 256]
+    requires { ⌜ IsTree tree ⌝ }
+    ensures { λ r. ⌜ r ≡ nodeKindsOf tree ⌝ }
+{
+    let mut kinds = tree.kinds;
+    kinds[tree.n - 1] = 2;
+    kinds
 }
 
 fn refused(ground: Ground, at: usize) -> TreeRead
@@ -71,7 +86,11 @@ fn read_known(text: &[u8]) -> TreeRead
     if at == text.len() {
         return TreeRead {
             answer: Answer::Accepted,
-            tree: Tree { n: end.n + 1, left },
+            tree: Tree {
+                n: end.n + 1,
+                left,
+                kinds: node_kinds(text),
+            },
         };
     }
     let role = form_role(text[at]);

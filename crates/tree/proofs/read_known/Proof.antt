@@ -2,7 +2,7 @@
 use mathlib.Core.Path.{sym, ap, _∙_}
 use native.Mathlib.Omega.{arith}
 use Rattle.tree.specs.Reading.{readOf}
-use Rattle.tree.proofs.Texts.{read-ready, read-few, read-all, read-inside, read-closing, read-opening}
+use Rattle.tree.proofs.Texts.{read-ready, read-short-form, read-few, read-all, read-inside, read-closing, read-opening}
 use borrow.Author.Needs.{needs}
 use Rattle.tree.proofs.read_known.Statement.{statement}
 use Rattle.tree.proofs.read_known.Tie as tie
@@ -19,8 +19,13 @@ add-t11 c =
     let few = read-few (start .args .text .now) (start .pre) _ _ (c .before .before .before .read-run .ensures) in
     omega arith
 
+node-kinds-requires : tie.Need-node-kinds-requires
+node-kinds-requires c κs = read-short-form _ (c .before .before .before .before .before .before .pre)
+
 returns : tie.Need-returns
-returns c = read-all _ (c .before .before .before .before .before .before .pre) _ _ (c .before .before .before .read-run .ensures) (c .before .if1 .taken)
+returns c =
+    let run = c .before .before .before .before in
+    read-all _ (run .before .before .before .pre) _ _ (run .read-run .ensures) (c .before .before .if1 .taken) _ (c .node-kinds .ensures)
 
 shared-slice-read-form-role : tie.Need-shared-slice-read-form-role
 shared-slice-read-form-role c =
@@ -58,6 +63,7 @@ read-known-spec =
     slice-aggregate-read-run
     read-run-requires
     add-t11
+    node-kinds-requires
     returns
     shared-slice-read-form-role
     form-role-requires
