@@ -7,13 +7,13 @@ use native.Mathlib.Omega.{arith}
 use lib.Dec.{eqb, leb}
 use lib.ListN.{length, getD}
 use borrow.Author.Tests.{le-leb, lt-leb, le-ltb, lt-ltb, ne-eqb}
-use Rattle.answer.specs.declared.Ground.the-variants.{OutsideTree, NotRising, AncestryDiffers, LastNotAncestor, BorderUnpaired}
+use Rattle.answer.specs.declared.Ground.the-variants.{OutsideTree, UnlikeNodes, NotRising, AncestryDiffers, LastNotAncestor, BorderUnpaired}
 use Rattle.answer.specs.declared.Place.the-variants as place
 use Rattle.answer.specs.declared.Answer.the-variants.{Accepted, Refused}
 use Rattle.tree.specs.Nested.{leaf, Nested}
 use Rattle.seed.specs.Seed.{qs, ts, lastOr, lastNode}
-use Rattle.seed.specs.Tests.{some, nodeIn, nodesIn, rises, alike, rooted, spans, children, paired, bordered}
-use Rattle.judge.specs.Judge.{judgeOf}
+use Rattle.seed.specs.Tests.{some, nodeIn, nodesIn, sameKind, sameKinds, rises, alike, rooted, spans, children, paired, bordered}
+use Rattle.judge.specs.Judge.{patternAnswer, judgeOn}
 use Rattle.seed.specs.Pairs.{pairOf}
 use Rattle.seed.specs.declared.Pair.{Pair}
 use Rattle.seed.proofs.Trees.{own}
@@ -31,6 +31,11 @@ module _ (n m q t : ℕ) where
   pub node-yes : q < n → t < m → nodeIn n m (pairOf q t) ≡ true
   unfolding nodeIn
   node-yes g h = rw (lt-ltb q n g, lt-ltb t m h)
+
+-- Nodes of one kind.
+pub kind-asked : (K L : List ℕ) (q t : ℕ) → eqb (getD K q 0) (getD L t 0) ≡ sameKind K L (pairOf q t)
+unfolding sameKind
+kind-asked K L q t = refl
 
 -- The last node.
 last-node-of : (x : ℕ) (xs : List ℕ) → lastOr x xs ≡ getD (x ∷ xs) (length xs) 0
@@ -100,30 +105,39 @@ module _ (l xs : List ℕ) (x : ℕ) where
 
 -- The judge's ways out.
 module _ (Q T : List ℕ) (s : List Pair) (n : ℕ) where
-  pub judge-15 : nodesIn Q T s ≡ false → judgeOf Q T s n ≡ Refused OutsideTree (place.Seed n)
-  unfolding judgeOf
+  pub judge-16 : (rises (qs s) && rises (ts s)) ≡ false → patternAnswer Q T s n ≡ Refused NotRising (place.Seed n)
+  unfolding patternAnswer
+  judge-16 b = rw b
+
+  module _ (b : (rises (qs s) && rises (ts s)) ≡ true) where
+    pub judge-17 : alike Q T s ≡ false → patternAnswer Q T s n ≡ Refused AncestryDiffers (place.Seed n)
+    unfolding patternAnswer
+    judge-17 c = rw (b, c)
+
+    module _ (c : alike Q T s ≡ true) where
+      pub judge-18 : rooted Q T s ≡ false → patternAnswer Q T s n ≡ Refused LastNotAncestor (place.Seed n)
+      unfolding patternAnswer
+      judge-18 d = rw (b, c, d)
+
+      module _ (d : rooted Q T s ≡ true) where
+        pub judge-19 : (bordered Q (qs s) && bordered T (ts s)) ≡ false → patternAnswer Q T s n ≡ Refused BorderUnpaired (place.Seed n)
+        unfolding patternAnswer
+        judge-19 e = rw (b, c, d, e)
+
+        pub judge-none : (bordered Q (qs s) && bordered T (ts s)) ≡ true → patternAnswer Q T s n ≡ Accepted
+        unfolding patternAnswer
+        judge-none e = rw (b, c, d, e)
+
+module _ (Q T K L : List ℕ) (s : List Pair) (n : ℕ) where
+  pub judge-15 : nodesIn Q T s ≡ false → judgeOn Q T K L s n ≡ Refused OutsideTree (place.Seed n)
+  unfolding judgeOn
   judge-15 a = rw a
 
   module _ (a : nodesIn Q T s ≡ true) where
-    pub judge-16 : (rises (qs s) && rises (ts s)) ≡ false → judgeOf Q T s n ≡ Refused NotRising (place.Seed n)
-    unfolding judgeOf
-    judge-16 b = rw (a, b)
+    pub judge-25 : sameKinds K L s ≡ false → judgeOn Q T K L s n ≡ Refused UnlikeNodes (place.Seed n)
+    unfolding judgeOn
+    judge-25 b = rw (a, b)
 
-    module _ (b : (rises (qs s) && rises (ts s)) ≡ true) where
-      pub judge-17 : alike Q T s ≡ false → judgeOf Q T s n ≡ Refused AncestryDiffers (place.Seed n)
-      unfolding judgeOf
-      judge-17 c = rw (a, b, c)
-
-      module _ (c : alike Q T s ≡ true) where
-        pub judge-18 : rooted Q T s ≡ false → judgeOf Q T s n ≡ Refused LastNotAncestor (place.Seed n)
-        unfolding judgeOf
-        judge-18 d = rw (a, b, c, d)
-
-        module _ (d : rooted Q T s ≡ true) where
-          pub judge-19 : (bordered Q (qs s) && bordered T (ts s)) ≡ false → judgeOf Q T s n ≡ Refused BorderUnpaired (place.Seed n)
-          unfolding judgeOf
-          judge-19 e = rw (a, b, c, d, e)
-
-          pub judge-none : (bordered Q (qs s) && bordered T (ts s)) ≡ true → judgeOf Q T s n ≡ Accepted
-          unfolding judgeOf
-          judge-none e = rw (a, b, c, d, e)
+    pub judge-pattern : sameKinds K L s ≡ true → judgeOn Q T K L s n ≡ patternAnswer Q T s n
+    unfolding judgeOn
+    judge-pattern b = rw (a, b)

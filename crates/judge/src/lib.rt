@@ -1,4 +1,4 @@
-// Judging a list of pairs that is to be a seed: grounds 15 to 19, in time that grows with the nodes and the pairs.
+// Judging a list of pairs that is to be a seed: grounds 15, 25 and 16 to 19, in time that grows with the nodes and the pairs.
 mod ancestry;
 mod border;
 
@@ -11,15 +11,16 @@ use border::bordered;
 use seed::leaf_at;
 use seed::pair_count;
 use tree::Tree;
+use tree::kinds_with_root;
 ghost use mathlib.Core.Path.{_≡_};
 ghost use mathlib.Core.Bool.{true, _&&_};
 ghost use lib.ListN.{length};
 ghost use Rattle.tree.specs.Nested.{Nested};
-ghost use Rattle.tree.specs.Reading.{IsTree, leavesOf};
+ghost use Rattle.tree.specs.Reading.{IsTree};
 ghost use Rattle.seed.specs.Seed as seed;
 ghost use Rattle.seed.specs.Pairs.{pairsOf};
 ghost use Rattle.seed.specs.Tests as test;
-ghost use Rattle.judge.specs.Judge.{judgeOf};
+ghost use Rattle.judge.specs.Judge.{patternAnswer, judgeOn, judgeOf};
 ghost use Rattle.judge.specs.inner.Steps.{Risen, BothUnderLast};
 
 // Whether each pair joins a node below n and a node below m.
@@ -38,6 +39,27 @@ fn nodes_in(n: usize, m: usize, qs: &[u8], ts: &[u8]) -> bool
         k += 1;
     }
     true
+}
+
+// Both, without a jump.
+fn both(a: bool, b: bool) -> bool
+    ensures { λ r. ⌜ r ≡ (a && b) ⌝ }
+{
+    if a { b } else { false }
+}
+
+// Whether the nodes of each pair are of one kind. No pair ends the loop, so that none needs a jump.
+fn same_kinds<'a>(kq: &'a [u8; 256], kt: &'a [u8; 256], qs: &[u8], ts: &[u8]) -> bool
+    ensures { λ r. ⌜ r ≡ test.every (test.sameKind (now (kq .entry)) (now (kt .entry))) (pairsOf (now (qs .entry)) (now (ts .entry))) ⌝ }
+{
+    let count = pair_count(qs, ts);
+    let mut all = true;
+    let mut k = 0;
+    while k < count {
+        all = both(all, kq[qs[k] as usize] == kt[ts[k] as usize]);
+        k += 1;
+    }
+    all
 }
 
 // Whether the nodes rise strictly.
@@ -91,10 +113,10 @@ fn both_bordered(lq: &[u8], lt: &[u8], qs: &[u8], ts: &[u8], tops: &mut [u8]) ->
     false
 }
 
-// What is answered of a list that passed the grounds 15 and 16, its q and its t in two lists of one length.
+// What is answered by 17 to 19 of a list whose nodes are in their trees and rise, its q and its t in two lists of one length.
 fn judge_risen(lq: &[u8], lt: &[u8], qs: &[u8], ts: &[u8], number: usize) -> Answer
     requires { ⌜ Risen (now lq) (now lt) (now qs) (now ts) ⌝ }
-    ensures { λ r. ⌜ r ≡ judgeOf (now (lq .entry)) (now (lt .entry)) (pairsOf (now (qs .entry)) (now (ts .entry))) number ⌝ }
+    ensures { λ r. ⌜ r ≡ patternAnswer (now (lq .entry)) (now (lt .entry)) (pairsOf (now (qs .entry)) (now (ts .entry))) number ⌝ }
 {
     let mut places: [u8; 256] = [0; 256];
     if !alike(lq, lt, qs, ts, &mut places[..]) {
@@ -109,28 +131,45 @@ fn judge_risen(lq: &[u8], lt: &[u8], qs: &[u8], ts: &[u8], number: usize) -> Ans
     Answer::Accepted
 }
 
-// What is answered of a list that is to be seed number `number` on the trees of two lists of leftmost leaves.
-pub fn judge_on(lq: &[u8], lt: &[u8], qs: &[u8], ts: &[u8], number: usize) -> Answer
+// What is answered of a list that is to be seed number `number` on the trees of two lists of leftmost leaves and two of kinds. The questions of the
+// first three grounds stand before their answers, which come in the order of the papers.
+pub fn judge_on<'a>(
+    lq: &[u8],
+    lt: &[u8],
+    kq: &'a [u8; 256],
+    kt: &'a [u8; 256],
+    qs: &[u8],
+    ts: &[u8],
+    number: usize,
+) -> Answer
     requires { ⌜ (Nested (now lq)) × (Nested (now lt)) ⌝ }
-    ensures { λ r. ⌜ r ≡ judgeOf (now (lq .entry)) (now (lt .entry)) (pairsOf (now (qs .entry)) (now (ts .entry))) number ⌝ }
+    ensures { λ r. ⌜ r ≡ judgeOn (now (lq .entry)) (now (lt .entry)) (now (kq .entry)) (now (kt .entry)) (pairsOf (now (qs .entry)) (now (ts .entry))) number ⌝ }
 {
-    if !nodes_in(lq.len(), lt.len(), qs, ts) {
+    let inside = nodes_in(lq.len(), lt.len(), qs, ts);
+    let like = same_kinds(kq, kt, qs, ts);
+    let rising = both_rise(qs, ts);
+    if !inside {
         return refused(Ground::OutsideTree, Place::Seed(number));
     }
-    if !both_rise(qs, ts) {
+    if !like {
+        return refused(Ground::UnlikeNodes, Place::Seed(number));
+    }
+    if !rising {
         return refused(Ground::NotRising, Place::Seed(number));
     }
     let count = pair_count(qs, ts);
     judge_risen(lq, lt, &qs[..count], &ts[..count], number)
 }
 
-// What is answered of a list of pairs that is to be seed number `number` on two trees: accepted, or the lowest of the grounds 15 to 19 that
-// holds of it. The list goes as far as both its q and its t do.
+// What is answered of a list of pairs that is to be seed number `number` on two trees: accepted, or the first of the grounds 15, 25 and 16 to 19
+// that holds of it. The list goes as far as both its q and its t do.
 pub fn judge(q: Tree, t: Tree, qs: &[u8], ts: &[u8], number: usize) -> Answer
     requires { ⌜ (IsTree q) × (IsTree t) ⌝ }
-    ensures { λ r. ⌜ r ≡ judgeOf (leavesOf q) (leavesOf t) (pairsOf (now (qs .entry)) (now (ts .entry))) number ⌝ }
+    ensures { λ r. ⌜ r ≡ judgeOf q t (pairsOf (now (qs .entry)) (now (ts .entry))) number ⌝ }
 {
     let lq = q.left;
     let lt = t.left;
-    judge_on(&lq[..q.n], &lt[..t.n], qs, ts, number)
+    let kq = kinds_with_root(q);
+    let kt = kinds_with_root(t);
+    judge_on(&lq[..q.n], &lt[..t.n], &kq, &kt, qs, ts, number)
 }

@@ -21,3 +21,4 @@ pub mod BoxList
 pub mod Areas
 pub mod RootAlone
 pub mod Examples
+pub mod Like

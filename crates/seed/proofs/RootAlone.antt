@@ -7,14 +7,14 @@ use Prim.Native.Nat.{ℕ, _<_}
 use native.Mathlib.Omega.{arith}
 use lib.ListN.{length}
 use Rattle.seed.specs.Paths.{RootAlone}
-use Rattle.seed.specs.Seed.{_∈_, Seed, qOf, tOf, lastPair, Span}
+use Rattle.seed.specs.Seed.{_∈_, Pattern, qOf, tOf, lastPair, Span}
 use Rattle.seed.specs.Chain.{Chainable}
 use Rattle.seed.specs.Area.{Box, FitsAt, Area, Areas}
 use Rattle.seed.specs.Pairs.{pairOf}
 use Rattle.seed.specs.declared.Pair.{Pair}
 use Rattle.seed.proofs.Lists.{last-in}
 
-module _ {Q T : List ℕ} {s : List Pair} (seed : Seed Q T s) where
+module _ {Q T : List ℕ} {s : List Pair} (seed : Pattern Q T s) where
   root-in : lastPair s ∈ s
   root-in = last-in (pairOf 0 0) s (seed .some)
 
@@ -39,7 +39,7 @@ shared : (l : List ℕ) {xs ys : List ℕ} {x y : ℕ} → x ∈ xs → y ∈ ys
 shared l {ys = ys} {x = x} m n same apart = apart x (inl m) (subst (Span l ys) same (inl n))
 
 -- So do those of two seeds on the only node.
-pub alone-not-chainable : {Q T : List ℕ} {s u : List Pair} → RootAlone Q ⊎ RootAlone T → Seed Q T s → Seed Q T u → Chainable Q T s u → ⊥
+pub alone-not-chainable : {Q T : List ℕ} {s u : List Pair} → RootAlone Q ⊎ RootAlone T → Pattern Q T s → Pattern Q T u → Chainable Q T s u → ⊥
 alone-not-chainable {Q} {T} alone a b c =
     let n = root-nodes a in
     let m = root-nodes b in

@@ -2,7 +2,7 @@
 use mathlib.Core.Bool.{Bool, true, false, not, _&&_, _||_, Bool·beq}
 use mathlib.Core.List.{List, [], _∷_}
 use Prim.Native.Nat.{ℕ, zero, suc, _-_}
-use lib.ListN.{length}
+use lib.ListN.{length, getD}
 use lib.Dec.{eqb, ltb, leb}
 use Rattle.tree.specs.Nested.{leaf}
 use Rattle.seed.specs.Seed.{lastNode, lastPair}
@@ -34,6 +34,13 @@ nodeIn n m p = ltb (p .q) n && ltb (p .t) m
 
 unfoldable pub nodesIn : List ℕ → List ℕ → List Pair → Bool
 nodesIn Q T s = every (nodeIn (length Q) (length T)) s
+
+-- The two nodes of a pair are of one kind, in trees whose nodes are of the kinds K and L; those of each pair are.
+unfoldable pub sameKind : (K L : List ℕ) → Pair → Bool
+sameKind K L p = eqb (getD K (p .q) 0) (getD L (p .t) 0)
+
+unfoldable pub sameKinds : (K L : List ℕ) → List Pair → Bool
+sameKinds K L s = every (sameKind K L) s
 
 -- The list rises strictly.
 unfoldable pub risesFrom : ℕ → List ℕ → Bool

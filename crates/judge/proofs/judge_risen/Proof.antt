@@ -19,7 +19,7 @@ refused-requires c κs = search needs
 returns : tie.Need-returns
 returns c =
     let pre = c .before .before .before .before .before .before .before .before .before .pre in
-    c .refused .ensures ∙ sym (judge-17 _ _ _ _ (pre .nodes) (risen-both pre) (sym (c .before .before .before .alike .ensures .0) ∙ not-true _ (c .before .if1 .taken)))
+    c .refused .ensures ∙ sym (judge-17 _ _ _ _ (risen-both pre) (sym (c .before .before .before .alike .ensures .0) ∙ not-true _ (c .before .if1 .taken)))
 
 rooted-requires : tie.Need-rooted-requires
 rooted-requires c κs = search needs
@@ -30,7 +30,7 @@ refused-requires-2 c κs = search needs
 returns-2 : tie.Need-returns-2
 returns-2 c =
     let pre = c .before .before .before .before .before .before .before .before .before .before .before .pre in
-    c .refused2 .ensures ∙ sym (judge-18 _ _ _ _ (pre .nodes) (risen-both pre) (sym (c .before .before .before .before .before .alike .ensures .0) ∙ not-false _ (c .before .before .before .if1 .left)) (sym (c .before .before .rooted .ensures) ∙ not-true _ (c .before .if2 .taken)))
+    c .refused2 .ensures ∙ sym (judge-18 _ _ _ _ (risen-both pre) (sym (c .before .before .before .before .before .alike .ensures .0) ∙ not-false _ (c .before .before .before .if1 .left)) (sym (c .before .before .rooted .ensures) ∙ not-true _ (c .before .if2 .taken)))
 
 slice-aggregate-both-bordered : tie.Need-slice-aggregate-both-bordered
 slice-aggregate-both-bordered c = search needs
@@ -44,12 +44,12 @@ refused-requires-3 c κs = search needs
 returns-3 : tie.Need-returns-3
 returns-3 c =
     let pre = c .before .before .before .before .before .before .before .before .before .before .before .before .before .before .before .pre in
-    c .refused3 .ensures ∙ sym (judge-19 _ _ _ _ (pre .nodes) (risen-both pre) (sym (c .before .before .before .before .before .before .before .before .before .alike .ensures .0) ∙ not-false _ (c .before .before .before .before .before .before .before .if1 .left)) (sym (c .before .before .before .before .before .before .rooted .ensures) ∙ not-false _ (c .before .before .before .before .before .if2 .left)) (sym (c .before .before .before .both-bordered .ensures) ∙ not-true _ (c .before .if3 .taken)))
+    c .refused3 .ensures ∙ sym (judge-19 _ _ _ _ (risen-both pre) (sym (c .before .before .before .before .before .before .before .before .before .alike .ensures .0) ∙ not-false _ (c .before .before .before .before .before .before .before .if1 .left)) (sym (c .before .before .before .before .before .before .rooted .ensures) ∙ not-false _ (c .before .before .before .before .before .if2 .left)) (sym (c .before .before .before .both-bordered .ensures) ∙ not-true _ (c .before .if3 .taken)))
 
 returns-4 : tie.Need-returns-4
 returns-4 c =
     let pre = c .before .before .before .before .before .before .before .before .before .before .before .before .before .before .pre in
-    sym (judge-none _ _ _ _ (pre .nodes) (risen-both pre) (sym (c .before .before .before .before .before .before .before .before .alike .ensures .0) ∙ not-false _ (c .before .before .before .before .before .before .if1 .left)) (sym (c .before .before .before .before .before .rooted .ensures) ∙ not-false _ (c .before .before .before .before .if2 .left)) (sym (c .before .before .both-bordered .ensures) ∙ not-false _ (c .if3 .left)))
+    sym (judge-none _ _ _ _ (risen-both pre) (sym (c .before .before .before .before .before .before .before .before .alike .ensures .0) ∙ not-false _ (c .before .before .before .before .before .before .if1 .left)) (sym (c .before .before .before .before .before .rooted .ensures) ∙ not-false _ (c .before .before .before .before .if2 .left)) (sym (c .before .before .both-bordered .ensures) ∙ not-false _ (c .if3 .left)))
 
 pub judge-risen-spec : {M : Type 1} → statement M
 judge-risen-spec =
