@@ -67,8 +67,8 @@ keeps-limits seeds pairs count z w =
     )
 
 -- A list is accepted exactly if it is a seed within the limits.
-module _ {Q T : List ℕ} (tree-q : Nested Q) (tree-t : Nested T) (rows : List Row) (ps : List Pair) (z : ℤ) where
-  addable : nextAnswer Q T rows ps z ≡ Accepted → Addable Q T rows ps z
+module _ (q t : Tree) (tree-q : Nested (leavesOf q)) (tree-t : Nested (leavesOf t)) (rows : List Row) (ps : List Pair) (z : ℤ) where
+  addable : nextAnswer q t rows ps z ≡ Accepted → Addable q t rows ps z
   unfolding nextAnswer
   addable e =
       let a = not-refused (limitAnswer (length rows) (pairsInAll rows) (length ps) z) _ e in
@@ -77,31 +77,31 @@ module _ {Q T : List ℕ} (tree-q : Nested Q) (tree-t : Nested T) (rows : List R
         ranged = w .ranged;
         seed-room = w .seed-room;
         pair-room = w .pair-room;
-        seed = accepts-seeds tree-q tree-t ps (length rows + 1) (w .some) .0 (a .1);
+        seed = accepts-seeds q t tree-q tree-t ps (length rows + 1) (w .some) .0 (a .1);
       }
 
-  adds : Addable Q T rows ps z → nextAnswer Q T rows ps z ≡ Accepted
+  adds : Addable q t rows ps z → nextAnswer q t rows ps z ≡ Accepted
   unfolding nextAnswer
   adds w =
       rw (
-        keeps-limits (length rows) (pairsInAll rows) (length ps) z record { ranged = w .ranged; some = w .seed .some; seed-room = w .seed-room; pair-room = w .pair-room },
-        accepts-seeds tree-q tree-t ps (length rows + 1) (w .seed .some) .1 (w .seed),
+        keeps-limits (length rows) (pairsInAll rows) (length ps) z record { ranged = w .ranged; some = w .seed .pattern .some; seed-room = w .seed-room; pair-room = w .pair-room },
+        accepts-seeds q t tree-q tree-t ps (length rows + 1) (w .seed .pattern .some) .1 (w .seed),
       )
 
-  pub next-exactly : (nextAnswer Q T rows ps z ≡ Accepted) ↔ Addable Q T rows ps z
+  pub next-exactly : (nextAnswer q t rows ps z ≡ Accepted) ↔ Addable q t rows ps z
   next-exactly = (addable, adds)
 
 -- The answer, by the table's fields: refused by the limits, or what the judge says.
 module _ (q t : Tree) (table : Table) (ps : List Pair) (z : ℤ) (h : Kept q t table) {n : ℕ} (count : n ≡ length ps) {a : Answer} (is-a : a ≡ limitAnswer (table .seeds) (table .pairs) n z) where
-  by-limits : nextAnswer (leavesOf q) (leavesOf t) (rowsOf table) ps z ≡ unless a (judgeOf (leavesOf q) (leavesOf t) ps (table .seeds + 1))
+  by-limits : nextAnswer q t (rowsOf table) ps z ≡ unless a (judgeOf q t ps (table .seeds + 1))
   unfolding nextAnswer
   by-limits = rw (is-a, count, rows-length table, rows-count table (h .laid))
 
-  pub next-limited : {g : Ground} {p : Place} → a ≡ Refused g p → a ≡ nextAnswer (leavesOf q) (leavesOf t) (rowsOf table) ps z
+  pub next-limited : {g : Ground} {p : Place} → a ≡ Refused g p → a ≡ nextAnswer q t (rowsOf table) ps z
   next-limited e = sym (by-limits ∙ unless-refused a _ (denies e))
 
-  pub next-judged : a ≡ Accepted → {b : Answer} → b ≡ judgeOf (leavesOf q) (leavesOf t) ps (table .seeds + 1) → b ≡ nextAnswer (leavesOf q) (leavesOf t) (rowsOf table) ps z
-  next-judged ok e = e ∙ sym (by-limits ∙ ap (λ (x : Answer). unless x (judgeOf (leavesOf q) (leavesOf t) ps (table .seeds + 1))) ok)
+  pub next-judged : a ≡ Accepted → {b : Answer} → b ≡ judgeOf q t ps (table .seeds + 1) → b ≡ nextAnswer q t (rowsOf table) ps z
+  next-judged ok e = e ∙ sym (by-limits ∙ ap (λ (x : Answer). unless x (judgeOf q t ps (table .seeds + 1))) ok)
 
 -- Two lists cut to the pairs that they have are the same pairs.
 pairs-cut : (a b : List ℕ) → pairsOf (take (length (pairsOf a b)) a) (take (length (pairsOf a b)) b) ≡ pairsOf a b
@@ -117,13 +117,13 @@ pub cut-t : (qs ts : List ℕ) (n : ℕ) → n ≡ length (pairsOf qs ts) → n 
 cut-t qs ts n e = sym (length-take-le n ts (omega (arith, count-most qs ts)))
 
 -- The whole call: two lists of any lengths, cut to the n pairs that they have.
-module _ (q t : Tree) (table : Table) (qs ts : List ℕ) (z : ℤ) (h : Kept q t table) {a : Answer} (e : a ≡ nextAnswer (leavesOf q) (leavesOf t) (rowsOf table) (pairsOf qs ts) z) where
+module _ (q t : Tree) (table : Table) (qs ts : List ℕ) (z : ℤ) (h : Kept q t table) {a : Answer} (e : a ≡ nextAnswer q t (rowsOf table) (pairsOf qs ts) z) where
   pub grows-not : {g : Ground} {p : Place} → a ≡ Refused g p → Grows q t table (pairsOf qs ts) z a table
   grows-not f = record { answers = e; accepted = λ x. absurd (denies f x); refused = λ n. refl; kept = h }
 
   module _ (ok : a ≡ Accepted) (n : ℕ) (count : n ≡ length (pairsOf qs ts)) where
-    known : Addable (leavesOf q) (leavesOf t) (rowsOf table) (pairsOf qs ts) z
-    known = addable (tree-nested q (h .is-q)) (tree-nested t (h .is-t)) (rowsOf table) (pairsOf qs ts) z (sym e ∙ ok)
+    known : Addable q t (rowsOf table) (pairsOf qs ts) z
+    known = addable q t (tree-nested q (h .is-q)) (tree-nested t (h .is-t)) (rowsOf table) (pairsOf qs ts) z (sym e ∙ ok)
 
     pub add-room : SeedRoom table (take n qs) (take n ts)
     add-room =
@@ -132,7 +132,7 @@ module _ (q t : Tree) (table : Table) (qs ts : List ℕ) (z : ℤ) (h : Kept q t
         let w = known in
         record {
           laid = h .laid;
-          some = omega (arith, w .seed .some);
+          some = omega (arith, w .seed .pattern .some);
           even = omega arith;
           seed-room = omega (arith, w .seed-room, rows-length table);
           pair-room = omega (arith, w .pair-room, rows-count table (h .laid));
@@ -152,6 +152,6 @@ module _ (q t : Tree) (table : Table) (qs ts : List ℕ) (z : ℤ) (h : Kept q t
             is-q = h .is-q;
             is-t = h .is-t;
             laid = laid-new table (take n qs) (take n ts) z add-room;
-            each = rw rows (all-more (leavesOf q) (leavesOf t) (rowsOf table) (newRow (pairsOf qs ts) z) (h .each) record { seed = known .seed; ranged = known .ranged });
+            each = rw rows (all-more q t (rowsOf table) (newRow (pairsOf qs ts) z) (h .each) record { seed = known .seed; ranged = known .ranged });
           };
         }

@@ -10,7 +10,6 @@ use seed::pair_count;
 use table::Table;
 use tree::Tree;
 ghost use mathlib.Core.Path.{_≡_};
-ghost use Rattle.tree.specs.Reading.{leavesOf};
 ghost use Rattle.seed.specs.Pairs.{pairsOf};
 ghost use Rattle.table.specs.Table.{rowsOf, Kept};
 ghost use Rattle.adding.specs.Adding.{nextAnswer, Grows};
@@ -21,10 +20,10 @@ pub struct Grown {
     pub table: Table,
 }
 
-// Grounds 11 to 14, then 15 to 19.
+// Grounds 11 to 14, then 15, 25 and 16 to 19.
 fn judge_next(q: Tree, t: Tree, table: Table, qs: &[u8], ts: &[u8], score: i32) -> Answer
     requires { ⌜ Kept q t table ⌝ }
-    ensures { λ r. ⌜ r ≡ nextAnswer (leavesOf q) (leavesOf t) (rowsOf table) (pairsOf (now (qs .entry)) (now (ts .entry))) score ⌝ }
+    ensures { λ r. ⌜ r ≡ nextAnswer q t (rowsOf table) (pairsOf (now (qs .entry)) (now (ts .entry))) score ⌝ }
 {
     let limits = judge_limits(table.seeds, table.pairs, pair_count(qs, ts), score);
     match limits {

@@ -11,7 +11,7 @@ use Rattle.answer.specs.declared.Answer.{Answer}
 use Rattle.answer.specs.declared.Answer.the-variants.{Accepted, Refused}
 use Rattle.answer.proofs.Given.{unless-refused}
 use Rattle.answer.proofs.Denied.{denies}
-use Rattle.tree.specs.Reading.{IsTree, treeOf, single, leavesOf}
+use Rattle.tree.specs.Reading.{IsTree, treeOf, single}
 use Rattle.tree.specs.declared.Tree.{Tree}
 use Rattle.table.specs.Table.{rowsOf, noSeeds, Kept}
 use Rattle.table.specs.declared.Table.{Table}
@@ -48,7 +48,7 @@ module _ (q t : Tree) (d : List ℕ) (is-q : IsTree q) (is-t : IsTree t) where
 
   module _ {x : DeckRead} (is-x : Reads d x) where
     abbrev seeds : Answer
-    seeds = seedsAnswer (leavesOf q) (leavesOf t) 1 (rowsIn (deck.deckReading d))
+    seeds = seedsAnswer q t 1 (rowsIn (deck.deckReading d))
 
     by-layout : deckAnswer q t d ≡ unless (x .answer) seeds
     unfolding deckAnswer
@@ -57,9 +57,9 @@ module _ (q t : Tree) (d : List ℕ) (is-q : IsTree q) (is-t : IsTree t) where
     pub on-layout : {g : Ground} {p : Place} {table : Table} → x .answer ≡ Refused g p → table ≡ noSeeds → DealsOn q t d (x .answer) table
     on-layout f none = rw none (refused-rows f (sym (by-layout ∙ unless-refused (x .answer) seeds (denies f))))
 
-    module _ (ok : x .answer ≡ Accepted) {a : Answer} (e : a ≡ seedsAnswer (leavesOf q) (leavesOf t) 1 (rowsOf (x .table))) where
+    module _ (ok : x .answer ≡ Accepted) {a : Answer} (e : a ≡ seedsAnswer q t 1 (rowsOf (x .table))) where
       by-seeds : a ≡ deckAnswer q t d
-      by-seeds = e ∙ ap (seedsAnswer (leavesOf q) (leavesOf t) 1) (is-x .rows) ∙ sym (by-layout ∙ ap (λ (y : Answer). unless y seeds) ok)
+      by-seeds = e ∙ ap (seedsAnswer q t 1) (is-x .rows) ∙ sym (by-layout ∙ ap (λ (y : Answer). unless y seeds) ok)
 
       pub on-seeds : {g : Ground} {p : Place} {table : Table} → a ≡ Refused g p → table ≡ noSeeds → DealsOn q t d a table
       on-seeds f none = rw none (refused-rows f by-seeds)

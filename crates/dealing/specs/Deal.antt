@@ -1,11 +1,11 @@
--- Two texts and a deck to two trees and rows (document 01, grounds 1 to 8, 11 and 15 to 19).
+-- Two texts and a deck to two trees and rows (document 01, grounds 1 to 8, 11 and 15 to 19; document 02, b and c, grounds 24 and 25).
 use mathlib.Core.Path.{_≡_}
 use mathlib.Core.List.{List, []}
 use Prim.Native.Nat.{ℕ}
 use Rattle.answer.specs.Answer.{unless}
 use Rattle.answer.specs.declared.Answer.{Answer}
 use Rattle.answer.specs.declared.Answer.the-variants.{Accepted, Refused}
-use Rattle.tree.specs.Reading.{treeOf, single, leavesOf}
+use Rattle.tree.specs.Reading.{treeOf, single}
 use Rattle.tree.specs.declared.Tree.{Tree}
 use Rattle.table.specs.Rows.{Row}
 use Rattle.table.specs.Table.{rowsOf, Kept}
@@ -18,7 +18,7 @@ use Rattle.dealing.specs.declared.Dealt.{Dealt}
 
 -- A deck on two trees: its layout and its walk, by 5 to 8, before its seeds.
 unfoldable pub deckAnswer : Tree → Tree → List ℕ → Answer
-deckAnswer q t d = unless (deckReadAnswer (deck.deckReading d)) (seedsAnswer (leavesOf q) (leavesOf t) 1 (rowsIn (deck.deckReading d)))
+deckAnswer q t d = unless (deckReadAnswer (deck.deckReading d)) (seedsAnswer q t 1 (rowsIn (deck.deckReading d)))
 
 -- Its rows, and none beside a refusal.
 abbrev pub rowsIf : Answer → List Row → List Row

@@ -21,7 +21,7 @@ pub struct Dealt {
     pub table: Table,
 }
 
-// The seeds of a deck on two trees, by grounds 5 to 8, then 11 and 15 to 19 seed by seed; none beside a refusal.
+// The seeds of a deck on two trees, by grounds 5 to 8, then 11, 15, 25 and 16 to 19 seed by seed; none beside a refusal.
 pub fn deal_on(q: Tree, t: Tree, deck: &[u8]) -> DeckRead
     requires { ⌜ (IsTree q) × (IsTree t) ⌝ }
     ensures { λ r. ⌜ DealsOn q t (now (deck .entry)) (r .answer) (r .table) ⌝ }

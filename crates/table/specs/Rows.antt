@@ -7,6 +7,7 @@ use lib.ListN.{length, getD, set}
 use lib.IntN.{ℤ, pos, negsuc}
 use lib.Signed.{leZ}
 use lib.Dec.{leb}
+use Rattle.tree.specs.declared.Tree.{Tree}
 use Rattle.seed.specs.Seed.{Seed, lastPair}
 use Rattle.seed.specs.declared.Pair.{Pair}
 use Rattle.table.specs.declared.Summary.{Summary}
@@ -68,10 +69,10 @@ unfoldable pub inRange : ℤ → Bool
 inRange z = leZ (negsuc 999999) z && leZ z (pos 1000000)
 
 -- A row that holds a seed of two trees, with a score in range.
-pub record Holds (Q T : List ℕ) (r : Row) : Type 0 where
-  pub seed : Seed Q T (r .pairs)
+pub record Holds (q t : Tree) (r : Row) : Type 0 where
+  pub seed : Seed q t (r .pairs)
   pub ranged : inRange (r .score) ≡ true
 
 -- Each of the rows does.
-abbrev pub AllHold : List ℕ → List ℕ → List Row → Type 0
-AllHold Q T rows = (i : ℕ) → i < length rows → Holds Q T (rowIn rows i)
+abbrev pub AllHold : Tree → Tree → List Row → Type 0
+AllHold q t rows = (i : ℕ) → i < length rows → Holds q t (rowIn rows i)

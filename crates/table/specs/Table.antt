@@ -5,7 +5,7 @@ use mathlib.Core.List.{List}
 use Prim.Native.Nat.{ℕ, _+_, _-_, _≤_, _<_}
 use lib.ListN.{length, getD, take, drop, replicate}
 use lib.IntN.{ℤ, pos}
-use Rattle.tree.specs.Reading.{IsTree, leavesOf}
+use Rattle.tree.specs.Reading.{IsTree}
 use Rattle.tree.specs.declared.Tree.{Tree}
 use Rattle.seed.specs.Tab.{tab}
 use Rattle.seed.specs.Pairs.{pairsOf}
@@ -51,7 +51,7 @@ pub record Kept (q t : Tree) (table : Table) : Type 0 where
   pub is-q : IsTree q
   pub is-t : IsTree t
   pub laid : Laid table
-  pub each : AllHold (leavesOf q) (leavesOf t) (rowsOf table)
+  pub each : AllHold q t (rowsOf table)
 
 -- The table that lies in these arrays: where its last seed ends, there its pairs do.
 abbrev pub tableOf : List ℕ → List ℕ → List ℕ → List ℤ → List Bool → ℕ → Table
