@@ -26,7 +26,7 @@ leaves-few t h = omega (arith, tree-length t h, tree-nodes t h)
 -- A seed has no more pairs than a tree has nodes.
 pub pairs-few : (q t : Tree) (a b : List ℕ) → Held q t (pairsOf a b) → (k : ℕ) → k ≡ length (pairsOf a b) → (length (take k a) ≤ 256) × (length (take k b) ≤ 256)
 pairs-few q t a b h k e =
-    let n = seed-few (tree-nested q (h .is-q)) (tree-nested t (h .is-t)) (pairsOf a b) (h .seed) in
+    let n = seed-few (tree-nested q (h .is-q)) (tree-nested t (h .is-t)) (pairsOf a b) (h .seed .pattern) in
     omega (arith, leaves-few q (h .is-q), cut-first a b e, cut-second a b e)
 
 -- An array that is filled with the gaps of a tree's nodes.
@@ -53,7 +53,7 @@ pub held-areas :
     → boxesBelow (take (q .n) g) (take (t .n) h) (length (take (q .n) g)) ≡ areas (leavesOf q) (leavesOf t) (pairsOf a b)
 held-areas q t a b held k e g h u v =
     rw (filled-take q (held .is-q) (gap (leavesOf q) (take k a)) g u, filled-take t (held .is-t) (gap (leavesOf t) (take k b)) h v, e, ← nodes-first a b, ← nodes-second a b)
-    (sym (areas-meet (tree-nested q (held .is-q)) (tree-nested t (held .is-t)) (pairsOf a b) (held .seed) (leaves-few q (held .is-q))))
+    (sym (areas-meet (tree-nested q (held .is-q)) (tree-nested t (held .is-t)) (pairsOf a b) (held .seed .pattern) (leaves-few q (held .is-q))))
 
 -- What is right of the same areas is right.
 pub listed-as : (xs ys : List Box) (o : List ℕ) (r : Listed) (after : List ℕ) → xs ≡ ys → ListedRight xs o r after → ListedRight ys o r after

@@ -9,7 +9,7 @@ use lib.ListN.{length, getD, List·getD-eq-default}
 use Rattle.tree.specs.Nested.{Nested}
 use Rattle.tree.proofs.Leaves.{lt-or-le}
 use Rattle.seed.specs.Tab.{tab}
-use Rattle.seed.specs.Seed.{Seed, qs, ts}
+use Rattle.seed.specs.Seed.{Pattern, qs, ts}
 use Rattle.seed.specs.Area.{FitsAt}
 use Rattle.seed.specs.AreaList.{fits, areas}
 use Rattle.area.specs.inner.Gaps.{gap, sameGap, like, meet, boxesBelow}
@@ -35,7 +35,7 @@ told true b f g = sym (g .1 (f .0 refl))
 told false true f g = f .1 (g .0 refl)
 told false false f g = refl
 
-module _ {Q T : List ℕ} (tree-q : Nested Q) (tree-t : Nested T) (s : List Pair) (seed : Seed Q T s) (few : length Q ≤ 256) where
+module _ {Q T : List ℕ} (tree-q : Nested Q) (tree-t : Nested T) (s : List Pair) (seed : Pattern Q T s) (few : length Q ≤ 256) where
   abbrev G : List ℕ
   G = tab (length Q) (gap Q (qs s))
 

@@ -9,7 +9,7 @@ use native.Mathlib.Omega.{arith}
 use lib.ListN.{length, length-map}
 use lib.Dec.{eqb}
 use Rattle.tree.specs.Nested.{leaf, Above, Nested}
-use Rattle.seed.specs.Seed.{_∈_, Agree, Mapping, Rising, Seed, qs, ts, qOf, tOf, lastPair}
+use Rattle.seed.specs.Seed.{_∈_, Agree, Mapping, Rising, Pattern, qs, ts, qOf, tOf, lastPair}
 use Rattle.seed.specs.Area.{FitsAt}
 use Rattle.seed.specs.AreaList.{side, on-left, on-right, on-top, in-subtree}
 use Rattle.area.specs.inner.Gaps.{weight, gapFrom, gap}
@@ -214,7 +214,7 @@ rising-few (x ∷ xs) lo n r h le =
     let u = h x (List·Memᴰ·head refl) in
     omega (arith, rising-few xs (suc x) n (r .1) (λ y m. (r .0 y m, h y (List·Memᴰ·tail m) .1)) (u .1))
 
-module _ {Q T : List ℕ} (tree-q : Nested Q) (tree-t : Nested T) (s : List Pair) (seed : Seed Q T s) where
+module _ {Q T : List ℕ} (tree-q : Nested Q) (tree-t : Nested T) (s : List Pair) (seed : Pattern Q T s) where
   pub seed-few : length s ≤ length Q
   seed-few = omega (arith, length-map s qOf, rising-few (qs s) 0 (length Q) (seed .rising) small (omega arith))
     where

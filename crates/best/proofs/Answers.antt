@@ -12,7 +12,7 @@ use Rattle.answer.specs.declared.Answer.the-variants.{Accepted}
 use Rattle.tree.specs.Reading.{leavesOf}
 use Rattle.tree.specs.declared.Tree.{Tree}
 use Rattle.tree.proofs.Trees.{tree-nested}
-use Rattle.seed.specs.Seed.{Seed}
+use Rattle.seed.specs.Seed.{Pattern}
 use Rattle.seed.specs.Tab.{tab}
 use Rattle.table.specs.Rows.{Row, inRange, rowIn}
 use Rattle.table.specs.Table.{rowAt, rowsOf, Kept}
@@ -46,8 +46,8 @@ module _ (q t : Tree) (table : Table) where
     few : length (rowsOf table) ≤ 64
     few = omega (arith, rows-length table, h .laid .few)
 
-    seeds : (i : ℕ) → i < length (rowsOf table) → Seed (leavesOf q) (leavesOf t) (rowIn (rowsOf table) i .pairs)
-    seeds i b = h .each i b .seed
+    seeds : (i : ℕ) → i < length (rowsOf table) → Pattern (leavesOf q) (leavesOf t) (rowIn (rowsOf table) i .pairs)
+    seeds i b = h .each i b .seed .pattern
 
     score-row : (i : ℕ) → i < length (rowsOf table) → scoreBy (table .scores) i ≡ rowIn (rowsOf table) i .score
     unfolding rowAt

@@ -15,7 +15,7 @@ use Rattle.tree.specs.Reading.{leavesOf}
 use Rattle.tree.specs.declared.Tree.{Tree}
 use Rattle.tree.proofs.Leaves.{lt-or-le}
 use Rattle.tree.proofs.Trees.{tree-nested}
-use Rattle.seed.specs.Seed.{Seed}
+use Rattle.seed.specs.Seed.{Pattern}
 use Rattle.seed.specs.AreaList.{chainable}
 use Rattle.seed.proofs.Chain.{chain-sym}
 use Rattle.seed.proofs.ChainTest.{tells-chainable}
@@ -60,7 +60,7 @@ best-natural S f h =
 
 -- ---- the theorem
 
-module _ {Q T : List ℕ} (tree-q : Nested Q) (tree-t : Nested T) (rows : List Row) (seeds : (i : ℕ) → i < length rows → Seed Q T (rowIn rows i .pairs)) where
+module _ {Q T : List ℕ} (tree-q : Nested Q) (tree-t : Nested T) (rows : List Row) (seeds : (i : ℕ) → i < length rows → Pattern Q T (rowIn rows i .pairs)) where
   abbrev S : Seeds
   S = seedsOf Q T rows
 
@@ -98,4 +98,4 @@ pub call-best : (q t : Tree) (table : Table) (xs ys : List ℕ) (r : Best) → K
 unfolding bestOf
 call-best q t table xs ys r h a room =
     rw (a .answer, le-ltb (length xs) scratchNeeded room)
-    (best-chain (tree-nested q (h .is-q)) (tree-nested t (h .is-t)) (rowsOf table) (λ i b. h .each i b .seed) (omega (arith, rows-length table, h .laid .few)))
+    (best-chain (tree-nested q (h .is-q)) (tree-nested t (h .is-t)) (rowsOf table) (λ i b. h .each i b .seed .pattern) (omega (arith, rows-length table, h .laid .few)))

@@ -12,7 +12,7 @@ use lib.ListN.{length}
 use lib.Signed.{_≤ℤ_}
 use Rattle.tree.specs.Nested.{Nested}
 use Rattle.tree.proofs.Leaves.{lt-or-le}
-use Rattle.seed.specs.Seed.{Seed, lastPair}
+use Rattle.seed.specs.Seed.{Pattern, lastPair}
 use Rattle.seed.specs.Chain.{Chainable}
 use Rattle.seed.specs.AreaList.{left, under}
 use Rattle.seed.specs.declared.Pair.{Pair}
@@ -35,7 +35,7 @@ use Rattle.best.proofs.BestChain.{numbered}
 mask-told : (f : ℕ → Bool) (x y : ℕ) {m : ℕ} → m ≡ maskOf f y → x < y → f x ≡ true → T (inMask m x)
 mask-told f x y e b h = rw (e, mask-has f y x) (and-i (ltb x y) (f x) (lt→ltb x y b) (told-yes refl h))
 
-module _ {Q T′ : List ℕ} (tree-q : Nested Q) (tree-t : Nested T′) (rows : List Row) (few : length rows ≤ 64) (seeds : (i : ℕ) → i < length rows → Seed Q T′ (rowIn rows i .pairs)) (s : Standing) (o : Stood Q T′ rows s) where
+module _ {Q T′ : List ℕ} (tree-q : Nested Q) (tree-t : Nested T′) (rows : List Row) (few : length rows ≤ 64) (seeds : (i : ℕ) → i < length rows → Pattern Q T′ (rowIn rows i .pairs)) (s : Standing) (o : Stood Q T′ rows s) where
   -- The seed at place k of the list.
   abbrev at : ℕ → List Pair
   at k = seedAt rows (s .numbers) k

@@ -44,7 +44,7 @@ ofNumber s k later = given (not (givenOut (length (s .rows)) k)) NumberNotGiven 
 
 -- What an add answers: the grounds of the list as the next seed, then ground 20.
 abbrev pub addAnswer : State → List Pair → ℤ → Answer
-addAnswer s ps z = unless (nextAnswer (leavesOf (s .q)) (leavesOf (s .t)) (s .rows) ps z) (countAnswer (s .changes))
+addAnswer s ps z = unless (nextAnswer (s .q) (s .t) (s .rows) ps z) (countAnswer (s .changes))
 
 -- Withdrawing and bringing back differ in ground 10 alone.
 abbrev pub moveAnswer : State → ℕ → Bool → Answer

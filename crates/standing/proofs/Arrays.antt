@@ -9,7 +9,7 @@ use Rattle.tree.specs.Reading.{IsTree, leavesOf}
 use Rattle.tree.specs.declared.Tree.{Tree}
 use Rattle.tree.proofs.Trees.{tree-length, tree-nested}
 use Rattle.seed.specs.AreaList.{left, under}
-use Rattle.seed.specs.Seed.{Seed, lastPair}
+use Rattle.seed.specs.Seed.{Pattern, lastPair}
 use Rattle.seed.specs.declared.Pair.{Pair}
 use Rattle.seed.proofs.Laws.{test-laws}
 use Rattle.table.specs.Rows.{Row, rowIn}
@@ -54,8 +54,8 @@ module _ (q t : Tree) (table : Table) (h : Kept q t table) where
     seed-row : (k : ℕ) → k < o .count → seedBy (table .qs) (table .ts) (table .bounds) (o .numbers) k ≡ seedAt (rowsOf table) (o .numbers) k
     seed-row k b = pairs-row (numberAt (o .numbers) k) (w .within k b)
 
-    seeds : (k : ℕ) → k < o .count → Seed (leavesOf q) (leavesOf t) (seedBy (table .qs) (table .ts) (table .bounds) (o .numbers) k)
-    seeds k b = rw (seed-row k b) (h .each (numberAt (o .numbers) k) (omega (arith, w .within k b, rows-length table)) .seed)
+    seeds : (k : ℕ) → k < o .count → Pattern (leavesOf q) (leavesOf t) (seedBy (table .qs) (table .ts) (table .bounds) (o .numbers) k)
+    seeds k b = rw (seed-row k b) (h .each (numberAt (o .numbers) k) (omega (arith, w .within k b, rows-length table)) .seed .pattern)
 
     pub lawful : Lawful (leavesOf q) (leavesOf t) (seedBy (table .qs) (table .ts) (table .bounds) (o .numbers)) (o .count)
     lawful =
