@@ -27,11 +27,11 @@ use Rattle.demand.proofs.Histories.{reached-sound, by-history}
 
 module _ (s : State) (tree-q : Nested (leavesOf (s .q))) (tree-t : Nested (leavesOf (s .t))) (ps : List Pair) (z : ℤ) where
   judged : Answer
-  judged = nextAnswer (leavesOf (s .q)) (leavesOf (s .t)) (s .rows) ps z
+  judged = nextAnswer (s .q) (s .t) (s .rows) ps z
 
-  exactly : (judged ≡ Accepted) ↔ Addable (leavesOf (s .q)) (leavesOf (s .t)) (s .rows) ps z
+  exactly : (judged ≡ Accepted) ↔ Addable (s .q) (s .t) (s .rows) ps z
   unfolding judged
-  exactly = next-exactly tree-q tree-t (s .rows) ps z
+  exactly = next-exactly (s .q) (s .t) tree-q tree-t (s .rows) ps z
 
   -- A list of pairs with a score is added exactly if a session in this state takes it.
   taken : addAnswer s ps z ≡ Accepted → Takes s ps z

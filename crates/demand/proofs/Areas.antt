@@ -28,13 +28,13 @@ use Rattle.demand.proofs.Histories.{reached-sound, by-history}
 
 -- The row of a number that was given out is a seed, and these are its areas.
 module _ (s : Session) (h : Sound s) (k : ℕ) (g : Given (length (rowsOf (s .table))) k) where
-  pub row-seed : Seed (leavesOf (s .q)) (leavesOf (s .t)) (rowOf (rowsOf (s .table)) k .pairs)
+  pub row-seed : Seed (s .q) (s .t) (rowOf (rowsOf (s .table)) k .pairs)
   unfolding rowOf
   row-seed = h .kept .each (k - 1) (omega (arith, g)) .seed
 
   pub row-areas : Areas (leavesOf (s .q)) (leavesOf (s .t)) (rowOf (rowsOf (s .table)) k .pairs) (areasOf (view s) k)
   unfolding areasOf
-  row-areas = areas-are (tree-nested (s .q) (h .kept .is-q)) (tree-nested (s .t) (h .kept .is-t)) _ row-seed
+  row-areas = areas-are (tree-nested (s .q) (h .kept .is-q)) (tree-nested (s .t) (h .kept .is-t)) _ (row-seed .pattern)
 
 -- Of every session that a list of calls handed over.
 pub areas-by-history : {o : Outcome} {s : Session} {h : List Event} → Reached o s h

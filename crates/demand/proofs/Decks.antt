@@ -57,23 +57,23 @@ range-small (pos n) e = omega (arith, leb-true n 1000000 e)
 range-small (negsuc n) e = omega (arith, leb-true n 999999 (and-left (leZ (negsuc 999999) (negsuc n)) true e))
 
 -- The present ones of rows that hold seeds can be written, and are judged seeds.
-module _ {Q T : List ℕ} (tree-q : Nested Q) (tree-t : Nested T) where
-  present-small : (rows : List Row) → AllHold Q T rows → All RowInLimits (presentRows rows)
+module _ (q t : Tree) (tree-q : Nested (leavesOf q)) (tree-t : Nested (leavesOf t)) where
+  present-small : (rows : List Row) → AllHold q t rows → All RowInLimits (presentRows rows)
   unfolding presentRows
   present-small [] h = tt
   present-small (r ∷ rs) h = go (present-small rs (λ i l. h (suc i) (omega arith))) (r .present) refl
     where
       go : All RowInLimits (presentRows rs) → (b : Bool) → r .present ≡ b → All RowInLimits (cond b (r ∷ presentRows rs) (presentRows rs))
-      go rest true e = let first = h 0 (omega arith) in (record { some = first .seed .some; score = range-small (r .score) (first .ranged); present = e }, rest)
+      go rest true e = let first = h 0 (omega arith) in (record { some = first .seed .pattern .some; score = range-small (r .score) (first .ranged); present = e }, rest)
       go rest false e = rest
 
-  present-judged : (rows : List Row) → AllHold Q T rows → (n : ℕ) → seedsAnswer Q T n (presentRows rows) ≡ Accepted
+  present-judged : (rows : List Row) → AllHold q t rows → (n : ℕ) → seedsAnswer q t n (presentRows rows) ≡ Accepted
   unfolding presentRows seedsAnswer
   present-judged [] h n = refl
   present-judged (r ∷ rs) h n = go (present-judged rs (λ i l. h (suc i) (omega arith))) (r .present)
     where
-      go : ((m : ℕ) → seedsAnswer Q T m (presentRows rs) ≡ Accepted) → (b : Bool) → seedsAnswer Q T n (cond b (r ∷ presentRows rs) (presentRows rs)) ≡ Accepted
-      go rest true = let first = h 0 (omega arith) in rw (first .ranged, accepts-seeds tree-q tree-t (r .pairs) n (first .seed .some) .1 (first .seed)) (rest (suc n))
+      go : ((m : ℕ) → seedsAnswer q t m (presentRows rs) ≡ Accepted) → (b : Bool) → seedsAnswer q t n (cond b (r ∷ presentRows rs) (presentRows rs)) ≡ Accepted
+      go rest true = let first = h 0 (omega arith) in rw (first .ranged, accepts-seeds q t tree-q tree-t (r .pairs) n (first .seed .pattern .some) .1 (first .seed)) (rest (suc n))
       go rest false = rest n
 
 present-few : (rows : List Row) → length (presentRows rows) ≤ length rows
@@ -108,13 +108,13 @@ module _ (s : Session) (h : Sound s) where
       record {
         seeds = omega (arith, present-few rows, rows-length (s .table), h .kept .laid .few);
         pairs = omega (arith, present-pairs rows, rows-count (s .table) (h .kept .laid), h .kept .laid .fit);
-        each = present-small tree-q tree-t rows (h .kept .each);
+        each = present-small (s .q) (s .t) tree-q tree-t rows (h .kept .each);
       }
 
   -- Opening on the texts of the session's trees and its deck hands over the present seeds, numbered from 1 in order.
   deck-reopened : (q t : List ℕ) → bothRead q t ≡ record { answer = Accepted; q = s .q; t = s .t } → deckOpening q t (plainOf (presentRows (rowsOf (s .table)))) ≡ record { answer = Accepted; state = startWith (s .q) (s .t) (presentRows (rowsOf (s .table))) }
   unfolding deckOpening dealOf dealAnswer deckAnswer
-  deck-reopened q t e = rw (e, deck-read, present-judged tree-q tree-t (rowsOf (s .table)) (h .kept .each) 1)
+  deck-reopened q t e = rw (e, deck-read, present-judged (s .q) (s .t) tree-q tree-t (rowsOf (s .table)) (h .kept .each) 1)
 
 -- What is written after any list of calls: the plain form of the rows that are present by the history.
 module _ {o : Outcome} {s : Session} {h : List Event} (reached : Reached o s h) {before after : List ℕ} {w : Written} (x : Writes (view s) before after w) (ok : w .answer ≡ Accepted) where

@@ -56,7 +56,7 @@ module _ {o : Outcome} {r p : Run} {rows : List Row} (on : OpenedOn o r p rows) 
       let now : State = stateOf (o .state) h in
       let number : GivenOut (view s) k = subst (λ (y : State). GivenOut y k) (sym (by-history w)) given in
       let out : Given (length (rowsOf (s .table))) k = record { low = number .0; high = number .1 } in
-      let none : areasOf (view s) k ≡ [] = alone-no-areas (row-seed s sound k out) alone _ (row-areas s sound k out) in
+      let none : areasOf (view s) k ≡ [] = alone-no-areas (row-seed s sound k out .pattern) alone _ (row-areas s sound k out) in
       let still : areasOf now k ≡ [] = ap (λ (y : State). areasOf y k) (sym (by-history w)) ∙ none in
       let says : CallSays now (listAreas k (length before)) accepted = later (fails (λ n. n given)) (fails (λ short. omega (arith, ap length still))) in
       let ok : x .answer ≡ Accepted = said-injective (x .answer) Accepted (sym (look-grounds w (listAreas k (length before)) (listed k l) .decided says)) in

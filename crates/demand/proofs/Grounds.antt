@@ -67,7 +67,7 @@ module _ (s : State) where
         (guards _ (tells-eq (length ps) 0) NoPairs (Seed (nextNumber s)) _ _
         (guards _ (tells-le 64 (length (s .rows))) SeedLimit (Seed (nextNumber s)) _ _
         (guards _ (tells-lt 1024 (pairsInAll (s .rows) + length ps)) PairLimit (Seed (nextNumber s)) Accepted _
-        (in-order _ (pairs-decide tree-q tree-t ps (nextNumber s))
+        (in-order _ (pairs-decide (s .q) (s .t) tree-q tree-t ps (nextNumber s))
         count-decides)))))
 
     -- Every call on a session.

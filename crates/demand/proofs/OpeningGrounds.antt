@@ -84,8 +84,8 @@ module _ (s : State) (row : Row) (rows : List Row) (fits : Fits s (row ∷ rows)
         count = omega (arith, fits .count);
       }
 
-  -- The answer to its add is that of grounds 11 and 15 to 19.
-  as-add : addAnswer s (row .pairs) (row .score) ≡ seedAnswer (leavesOf (s .q)) (leavesOf (s .t)) (nextNumber s) row
+  -- The answer to its add is that of grounds 11, 15, 25 and 16 to 19.
+  as-add : addAnswer s (row .pairs) (row .score) ≡ seedAnswer (s .q) (s .t) (nextNumber s) row
   unfolding nextAnswer limitAnswer countAnswer flatten
   as-add =
       rw (
@@ -94,22 +94,22 @@ module _ (s : State) (row : Row) (rows : List Row) (fits : Fits s (row ∷ rows)
         le-ltb 1024 (pairsInAll (s .rows) + length (row .pairs)) (omega (arith, fits .pairs, length-append (row .pairs) (flatten (chainsOf rows)))),
         lt-leb 1000000 (s .changes) (omega (arith, fits .count, fits .seeds)),
       )
-      (go (not (inRange (row .score))) (judgeOf (leavesOf (s .q)) (leavesOf (s .t)) (row .pairs) (nextNumber s)))
+      (go (not (inRange (row .score))) (judgeOf (s .q) (s .t) (row .pairs) (nextNumber s)))
     where
       go : (b : Bool) (x : Answer) → unless (unless (given b ScoreRange (Seed (nextNumber s)) Accepted) x) Accepted ≡ given b ScoreRange (Seed (nextNumber s)) x
       go true x = refl
       go false Accepted = refl
       go false (Refused g p) = refl
 
-seeds-decide : (rows : List Row) (s : State) → Nested (leavesOf (s .q)) → Nested (leavesOf (s .t)) → Fits s rows → Decides (SeedsSay s rows) (seedsAnswer (leavesOf (s .q)) (leavesOf (s .t)) (nextNumber s) rows)
+seeds-decide : (rows : List Row) (s : State) → Nested (leavesOf (s .q)) → Nested (leavesOf (s .t)) → Fits s rows → Decides (SeedsSay s rows) (seedsAnswer (s .q) (s .t) (nextNumber s) rows)
 unfolding SeedsSay seedsAnswer
 seeds-decide [] s tree-q tree-t fits = record { judged = refl; decided = λ e. e }
 seeds-decide (row ∷ rows) s tree-q tree-t fits =
     let next : State = after (add (row .pairs) (row .score)) s in
     let number : nextNumber next ≡ suc (nextNumber s) = omega (arith, length-append (s .rows) (newRow (row .pairs) (row .score) ∷ [])) in
-    in-order (seedAnswer (leavesOf (s .q)) (leavesOf (s .t)) (nextNumber s) row)
+    in-order (seedAnswer (s .q) (s .t) (nextNumber s) row)
     (subst (Decides _) (as-add s row rows fits) (add-decides s tree-q tree-t (row .pairs) (row .score)))
-    (subst (λ (n : ℕ). Decides (SeedsSay next rows) (seedsAnswer (leavesOf (s .q)) (leavesOf (s .t)) n rows)) number (seeds-decide rows next tree-q tree-t (fits-next s row rows fits)))
+    (subst (λ (n : ℕ). Decides (SeedsSay next rows) (seedsAnswer (s .q) (s .t) n rows)) number (seeds-decide rows next tree-q tree-t (fits-next s row rows fits)))
 
 -- The deck.
 deck-fits : (q t d : List ℕ) → Fits (opening q t .state) (rowsIn (deck.deckReading d))

@@ -26,7 +26,7 @@ use Rattle.demand.specs.History.{Event, stateOf}
 
 -- A list of pairs that a session in this state takes: a seed within the limits, and the count has room for a change.
 pub record Takes (s : State) (ps : List Pair) (z : ℤ) : Type 0 where
-  pub addable : Addable (leavesOf (s .q)) (leavesOf (s .t)) (s .rows) ps z
+  pub addable : Addable (s .q) (s .t) (s .rows) ps z
   pub room : s .changes < 1000000
 
 -- An add in this state answers so and gives this number: the one after the last, and 0 beside a refusal.

@@ -1,15 +1,17 @@
--- The starred examples of document 01, those of a text without structure (document 02, f) and of WUSS characters (document 02, b), as rows of one list: what
--- the definitions give, and what the documents say.
+-- The starred examples of document 01 as document 02 (c) changes them, those of a text without structure (document 02, f), of WUSS characters
+-- (document 02, b) and of nodes of each kind (document 02, c), as rows of one list: what the definitions give, and what the documents say.
 use mathlib.Core.Path.{_≡_}
 use mathlib.Core.Bool.{Bool, true, false, cond}
 use mathlib.Core.List.{List, [], _∷_}
 use Prim.Native.Nat.{ℕ, zero, suc}
+use lib.ListN.{take}
 use lib.IntN.{pos, negsuc}
 use Rattle.answer.specs.Answer.{Said, said}
 use Rattle.answer.specs.Answer.Said.{accepted, refused}
 use Rattle.answer.specs.declared.Place.the-variants.{ByteInQ, ByteInT, Seed}
 use Rattle.write.specs.Decimal.{bytes}
-use Rattle.tree.specs.Reading.{leavesOf}
+use Rattle.tree.specs.Reading.{leavesOf, nodeKindsOf}
+use Rattle.tree.specs.declared.Tree.{Tree}
 use Rattle.stretch.specs.Stretch.{checkOf, partOf}
 use Rattle.seed.specs.Seed.{qs, ts}
 use Rattle.seed.specs.Tests.{paired}
@@ -63,15 +65,15 @@ answered s = bestBy (grounds s (bestChain scratchNeeded)) (keyIn s)
 abbrev pub totalAndChain : State → List ℕ
 totalAndChain s = answered s .total ∷ numbersFrom 1 (answered s .chain)
 
--- The five seeds added; then seed 4 rescored to 4; then 2 withdrawn.
-abbrev pub five : State
-five = doing (doing (doing (doing (doing onAB (add (one 2 1) (pos 3))) (add (one 4 3) (pos 2))) (add (one 1 0) (pos 1))) (add (one 3 1) (pos 3))) (add (one 0 2) (negsuc 0))
+-- The five seeds handed in, of which the second is turned down: the other four are numbered 1 to 4. Then seed 3 rescored to 4; then 2 withdrawn.
+abbrev pub fourOfFive : State → State
+fourOfFive s = doing (doing (doing (doing (doing s (add (one 2 1) (pos 3))) (add (one 4 3) (pos 2))) (add (one 1 0) (pos 1))) (add (one 3 1) (pos 3))) (add (one 0 2) (negsuc 0))
 
-abbrev pub fourRescored : State
-fourRescored = doing five (rescore 4 (pos 4))
+abbrev pub threeRescored : State
+threeRescored = doing (fourOfFive onAB) (rescore 3 (pos 4))
 
 abbrev pub twoWithdrawn : State
-twoWithdrawn = doing fourRescored (withdraw 2)
+twoWithdrawn = doing threeRescored (withdraw 2)
 
 -- An example: what the definitions give, and what the document says.
 pub data Example : Type 0 where
@@ -82,11 +84,8 @@ abbrev pub starred : List Example
 starred =
     lists (leavesOf (onAB .q)) (0 ∷ 1 ∷ 1 ∷ 0 ∷ 4 ∷ 0 ∷ [])
     ∷ lists (leavesOf (onAB .t)) (0 ∷ 0 ∷ 2 ∷ 2 ∷ 0 ∷ [])
-    ∷ says (adding onAB (two 2 0 5 4)) (refused 19 (Seed 1))
-    -- Q's node 3 is the unpaired one.
-    ∷ lists (unpairedFrom (leavesOf (onAB .q)) (qs (two 2 0 5 4)) 0 6) (3 ∷ [])
-    ∷ lists (unpairedFrom (leavesOf (onAB .t)) (ts (two 2 0 5 4)) 0 5) []
-    ∷ says (adding onAB (two 0 0 1 1)) (refused 17 (Seed 1))
+    ∷ says (adding onAB (two 2 0 5 4)) (refused 25 (Seed 1))
+    ∷ says (adding onAB (two 0 0 1 1)) (refused 25 (Seed 1))
     ∷ says (adding onAB (two 0 0 4 2)) (refused 18 (Seed 1))
     ∷ says (adding onAB (two 1 0 3 1)) accepted
     ∷ lists (bytesOf (areasOf (doing onAB (add (two 3 1 5 4) (pos 0))) 1)) (0 ∷ 2 ∷ 0 ∷ 0 ∷ 4 ∷ 4 ∷ 2 ∷ 3 ∷ [])
@@ -98,11 +97,8 @@ starred =
     ∷ lists (totalAndChain onAB) (0 ∷ [])
     ∷ lists (totalAndChain (doing onAB (add (one 2 1) (pos 0)))) (0 ∷ [])
     ∷ lists (totalAndChain (doing onAB (add (one 2 1) (negsuc 0)))) (0 ∷ [])
-    ∷ lists (totalAndChain five) (6 ∷ 1 ∷ 2 ∷ 3 ∷ [])
-    -- 2 3 4 ties: without seed 1 it is the best chain.
-    ∷ lists (totalAndChain (doing five (withdraw 1))) (6 ∷ 2 ∷ 3 ∷ 4 ∷ [])
-    ∷ lists (totalAndChain fourRescored) (7 ∷ 2 ∷ 3 ∷ 4 ∷ [])
-    ∷ lists (totalAndChain twoWithdrawn) (5 ∷ 3 ∷ 4 ∷ [])
+    ∷ says (adding (doing onAB (add (one 2 1) (pos 3))) (one 4 3)) (refused 25 (Seed 2))
+    ∷ lists (totalAndChain (fourOfFive onAB)) (4 ∷ 1 ∷ 2 ∷ [])
     ∷ []
 
 -- On two empty texts, with the seed (0, 0) of score 5, and with (0, 0) of score 7 besides; on an empty text and one with structure.
@@ -133,8 +129,8 @@ onEmptyText =
     ∷ lists (deckOf twoOnEmpty) (2 ∷ 0 ∷ 0 ∷ 2 ∷ 0 ∷ 0 ∷ 0 ∷ 5 ∷ 0 ∷ 1 ∷ 0 ∷ 0 ∷ 0 ∷ 7 ∷ 0 ∷ 2 ∷ 0 ∷ 0 ∷ 0 ∷ 0 ∷ 0 ∷ 0 ∷ 0 ∷ 0 ∷ [])
     ∷ says (said (deckOpening [] [] (deckOf twoOnEmpty) .answer)) accepted
     ∷ lists (totalAndChain (deckOpening [] [] (deckOf twoOnEmpty) .state)) (7 ∷ 2 ∷ [])
-    -- The root alone and the dot of `.`, and the two roots.
-    ∷ says (adding (onEmptyAnd (bytes ".")) (one 0 0)) accepted
+    -- The root alone and the dot of `.`, which are unlike, and the two roots.
+    ∷ says (adding (onEmptyAnd (bytes ".")) (one 0 0)) (refused 25 (Seed 1))
     ∷ says (adding (onEmptyAnd (bytes ".")) (one 0 1)) accepted
     ∷ lists (bytesOf (areasOf (doing (onEmptyAnd (bytes "(.)")) (add (one 0 2) (pos 0))) 1)) []
     -- A refused opening hands over the trees of `.` all the same.
@@ -174,7 +170,32 @@ inWuss =
     -- The same nodes as A and B, and the same best chain.
     ∷ lists (leavesOf (onOther .q)) (leavesOf (onAB .q))
     ∷ lists (leavesOf (onOther .t)) (leavesOf (onAB .t))
-    ∷ lists (totalAndChain (doing (doing onOther (add (one 2 1) (pos 3))) (add (one 4 3) (pos 2)))) (5 ∷ 1 ∷ 2 ∷ [])
+    ∷ lists (totalAndChain (fourOfFive onOther)) (4 ∷ 1 ∷ 2 ∷ [])
+    ∷ []
+
+-- The kinds of just the nodes of a tree; and a leaf that is a base pair against one that is an unpaired base.
+abbrev pub nodeKindsIn : Tree → List ℕ
+nodeKindsIn t = take (t .n) (nodeKindsOf t)
+
+abbrev pub onPairAndDot : State
+onPairAndDot = opening (bytes "()") (bytes ".") .state
+
+abbrev pub ofEachKind : List Example
+ofEachKind =
+    lists (nodeKindsIn (onAB .q)) (0 ∷ 0 ∷ 1 ∷ 1 ∷ 0 ∷ 2 ∷ [])
+    ∷ lists (nodeKindsIn (onAB .t)) (0 ∷ 1 ∷ 0 ∷ 1 ∷ 2 ∷ [])
+    -- What the starred examples no longer cover.
+    ∷ says (adding onAB (two 0 0 2 1)) (refused 17 (Seed 1))
+    ∷ says (adding onAB (two 1 0 5 4)) (refused 19 (Seed 1))
+    -- Q's node 3 is the unpaired one.
+    ∷ lists (unpairedFrom (leavesOf (onAB .q)) (qs (two 1 0 5 4)) 0 6) (3 ∷ [])
+    ∷ lists (unpairedFrom (leavesOf (onAB .t)) (ts (two 1 0 5 4)) 0 5) []
+    -- 2 3 ties: without seed 1 it is the best chain.
+    ∷ lists (totalAndChain (doing (fourOfFive onAB) (withdraw 1))) (4 ∷ 2 ∷ 3 ∷ [])
+    ∷ lists (totalAndChain threeRescored) (5 ∷ 2 ∷ 3 ∷ [])
+    ∷ lists (totalAndChain twoWithdrawn) (4 ∷ 3 ∷ [])
+    ∷ says (adding onPairAndDot (one 0 0)) (refused 25 (Seed 1))
+    ∷ says (adding onPairAndDot (one 1 1)) accepted
     ∷ []
 
 -- Each holds: the two are the same.

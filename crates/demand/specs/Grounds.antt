@@ -11,7 +11,6 @@ use Rattle.answer.specs.Answer.{Said}
 use Rattle.answer.specs.Answer.Said.{accepted, refused}
 use Rattle.answer.specs.Grounds.{GivenIf, _then_}
 use Rattle.answer.specs.declared.Place.the-variants.{ByteInQ, ByteInT, Seed, Nothing}
-use Rattle.tree.specs.Reading.{leavesOf}
 use Rattle.tree.specs.Grounds.{TextSays}
 use Rattle.judge.specs.Grounds.{PairsSay}
 use Rattle.seed.specs.declared.Pair.{Pair}
@@ -51,7 +50,7 @@ AddSays s ps z =
     then GivenIf (length ps ≡ 0) 12 (Seed (nextNumber s))
     then GivenIf (64 ≤ length (s .rows)) 13 (Seed (nextNumber s))
     then GivenIf (1024 < pairsInAll (s .rows) + length ps) 14 (Seed (nextNumber s))
-    then PairsSay (leavesOf (s .q)) (leavesOf (s .t)) ps (nextNumber s)
+    then PairsSay (s .q) (s .t) ps (nextNumber s)
     then CountSays s
 
 -- Withdrawing number k, which is to be absent, and bringing it back, which is to be present.

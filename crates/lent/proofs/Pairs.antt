@@ -18,7 +18,6 @@ use Rattle.answer.specs.declared.Ground.the-variants.{ScoreRange, SeedLimit, Pa
 use Rattle.answer.specs.declared.Place.{Place}
 use Rattle.answer.specs.declared.Place.the-variants.{Seed}
 use Rattle.tree.proofs.Leaves.{lt-or-le}
-use Rattle.tree.specs.Reading.{leavesOf}
 use Rattle.seed.specs.Pairs.{pairOf, pairsOf}
 use Rattle.seed.specs.declared.Pair.{Pair}
 use Rattle.answer.specs.Answer.{given, unless}
@@ -137,7 +136,7 @@ manyAnswer s z = tooMany (not (inRange z)) (leb 64 (length (s .rows))) (Seed (le
 add-many : (s : State) (ps : List Pair) (z : ℤ) → 1024 < length ps → addAnswer s ps z ≡ manyAnswer s z
 unfolding nextAnswer
 add-many s ps z h =
-    let judged : Answer = judgeOf (leavesOf (s .q)) (leavesOf (s .t)) ps (length (s .rows) + 1) in
+    let judged : Answer = judgeOf (s .q) (s .t) ps (length (s .rows) + 1) in
     let counted : Answer = countAnswer (s .changes) in
     let number : Place = Seed (length (s .rows) + 1) in
     ap (λ (x : Answer). unless (unless x judged) counted) (limit-many (length (s .rows)) (pairsInAll (s .rows)) (length ps) z h)

@@ -10,7 +10,7 @@ use Rattle.answer.specs.declared.Answer.the-variants.{Accepted, Refused}
 use Rattle.write.specs.Decimal.{bytes, digits}
 use Rattle.lines.specs.Lines.{scoreLine, member, members, chainLine, resultLines, placed, refusalLine}
 
--- Document 01's deck example, and a chain without seeds.
+-- A chain of two seeds, and one without seeds.
 pub results-printed : resultLines 5 (true ∷ true ∷ replicate 62 false) ∷ resultLines 0 (replicate 64 false) ∷ [] ≡ bytes "score 5\nchain 1 2\n" ∷ bytes "score 0\nchain\n" ∷ []
 unfolding resultLines scoreLine chainLine members member digits
 results-printed = refl
