@@ -1,13 +1,22 @@
-// A tree by the parent of each of its nodes, read from a text of at most 12 bytes, without the library.
+// A tree by the parent and the kind of each of its nodes, read from a text of at most 12 bytes, without the library.
 use super::texts::closes;
 use super::texts::opens;
 use test_words::plain::more;
 use test_words::plain::small;
 
-// The nodes in postfix order, with the added root last. A node that no node has taken as a child has the parent 255.
+// The kinds of nodes (document 02, c).
+const UNPAIRED_BASE: u8 = 0;
+
+const BASE_PAIR: u8 = 1;
+
+const ADDED_ROOT: u8 = 2;
+
+// The nodes in postfix order, with the added root last. A node that no node has taken as a child has the parent 255, and a number that is no
+// node has the kind 255.
 pub struct Nodes {
     pub n: usize,
     pub parent: [u8; 16],
+    pub kind: [u8; 16],
 }
 
 pub fn parent(t: Nodes, i: usize) -> usize {
@@ -18,6 +27,19 @@ fn with_parent(t: Nodes, i: usize, p: usize) -> Nodes {
     let mut next = t;
     if i < 16 {
         next.parent[i] = small(p);
+    }
+    next
+}
+
+// Which kind node i is of: unpaired base, base pair or added root.
+pub fn kind(t: Nodes, i: usize) -> u8 {
+    if i < 16 { t.kind[i] } else { 255 }
+}
+
+fn with_kind(t: Nodes, i: usize, kind: u8) -> Nodes {
+    let mut next = t;
+    if i < 16 {
+        next.kind[i] = kind;
     }
     next
 }
@@ -51,6 +73,7 @@ fn start() -> Reader {
         nodes: Nodes {
             n: 0,
             parent: [255; 16],
+            kind: [255; 16],
         },
         owner: [255; 16],
         depth: 0,
@@ -86,7 +109,7 @@ fn opened(r: Reader, k: usize) -> Reader {
 fn unpaired(r: Reader, k: usize) -> Reader {
     let nodes = r.nodes;
     let mut next = owned(r, k, nodes.n);
-    next.nodes = with_node(nodes, nodes.n);
+    next.nodes = with_kind(with_node(nodes, nodes.n), nodes.n, UNPAIRED_BASE);
     next
 }
 
@@ -102,7 +125,7 @@ fn closed(r: Reader, k: usize) -> Reader {
     let byte = r.byte[d - 1] as usize;
     let before = r.before[d - 1] as usize;
     let mut next = owned(owned(r, k, nodes.n), byte, nodes.n);
-    next.nodes = with_node(nodes, before);
+    next.nodes = with_kind(with_node(nodes, before), nodes.n, BASE_PAIR);
     next.depth = d - 1;
     next
 }
@@ -117,6 +140,11 @@ fn stepped(r: Reader, k: usize, byte: u8) -> Reader {
     unpaired(r, k)
 }
 
+// The added root above all top items.
+fn with_root(nodes: Nodes) -> Nodes {
+    with_kind(with_node(nodes, 0), nodes.n, ADDED_ROOT)
+}
+
 // Reads a text that is known to be a structure.
 pub fn reading(text: &[u8]) -> Reader {
     let mut r = start();
@@ -124,7 +152,7 @@ pub fn reading(text: &[u8]) -> Reader {
         r = stepped(r, k, text[k]);
     }
     let nodes = r.nodes;
-    r.nodes = with_node(nodes, 0);
+    r.nodes = with_root(nodes);
     r
 }
 

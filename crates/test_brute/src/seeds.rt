@@ -1,9 +1,10 @@
-// Seeds, chains and open areas of small trees, straight by the definitions of document 01.
+// Seeds, chains and open areas of small trees, straight by the definitions of document 01 and, of like nodes, of document 02, c.
 use super::nodes::Nodes;
 use super::nodes::Set;
 use super::nodes::ancestor;
 use super::nodes::children_in;
 use super::nodes::has;
+use super::nodes::kind;
 use super::nodes::leaf;
 use super::nodes::none;
 use super::nodes::parent;
@@ -57,6 +58,22 @@ fn all_nodes(t: Nodes, c: Column) -> bool {
     for k in 0..4 {
         if k < c.count {
             if t.n <= node(c, k) {
+                return false;
+            }
+        }
+    }
+    true
+}
+
+// Whether each pair joins two unpaired bases, two base pairs or the two added roots.
+fn like_to_like(trees: Trees, list: List) -> bool {
+    let tq = trees.q;
+    let tt = trees.t;
+    let q = list.q;
+    let t = list.t;
+    for k in 0..4 {
+        if k < q.count {
+            if kind(tq, node(q, k)) != kind(tt, node(t, k)) {
                 return false;
             }
         }
@@ -200,7 +217,7 @@ pub fn both(a: bool, b: bool) -> bool {
     if a { b } else { false }
 }
 
-// The first of the grounds 15 to 19 that holds of a list, and 0 if it is a seed.
+// The first of the grounds 15, 25 and 16 to 19 that holds of a list, and 0 if it is a seed.
 pub fn judge(trees: Trees, list: List) -> usize {
     let tq = trees.q;
     let tt = trees.t;
@@ -208,6 +225,9 @@ pub fn judge(trees: Trees, list: List) -> usize {
     let t = list.t;
     if !both(all_nodes(tq, q), all_nodes(tt, t)) {
         return 15;
+    }
+    if !like_to_like(trees, list) {
+        return 25;
     }
     if !both(rises(q), rises(t)) {
         return 16;

@@ -16,6 +16,7 @@ use test_words::line::number_or;
 use test_words::line::structure;
 use test_words::plain::all_are;
 use test_words::plain::fourfold;
+use test_words::plain::less;
 use test_words::plain::part;
 use test_words::plain::wide;
 use test_words::with_byte;
@@ -242,8 +243,15 @@ pub fn stretch(s: &[u8], at: usize) -> Text {
     with_bytes(with_byte(said, b' '), spelled)
 }
 
-fn with_leaves(t: Text, left: [u8; 256], n: usize) -> Text {
-    with_numbers(t, part(&left, 0, n))
+// The first so many of the numbers that a tree has of its nodes.
+fn with_nodes(t: Text, numbers: [u8; 256], n: usize) -> Text {
+    with_numbers(t, part(&numbers, 0, n))
+}
+
+// The leftmost leaf of each node, then the kind of each below the added root, which is the last.
+fn with_tree(t: Text, left: [u8; 256], kinds: [u8; 256], n: usize) -> Text {
+    let leaves = with_nodes(t, left, n);
+    with_nodes(with_bytes(leaves, b" kinds"), kinds, less(n))
 }
 
 // read TEXT
@@ -255,7 +263,8 @@ pub fn read(s: &[u8], at: usize) -> Text {
         Answer::Accepted => {
             let tree = r.tree;
             let left = tree.left;
-            with_leaves(said, left, tree.n)
+            let kinds = tree.kinds;
+            with_tree(said, left, kinds, tree.n)
         }
         _ => said,
     }

@@ -1,6 +1,7 @@
-// Random lists of pairs of two trees.
+// Random lists of pairs of two trees, drawn so that most pairs join nodes of one kind.
 use super::draw;
 use test_brute::nodes::Nodes;
+use test_brute::nodes::kind;
 use test_brute::nodes::parent;
 use test_brute::seeds::Column;
 use test_brute::seeds::List;
@@ -30,14 +31,43 @@ fn with_pair(l: List, i: usize, j: usize) -> List {
     }
 }
 
-// A node of T for a node of Q: half the time the same number.
-fn partner(state: &mut u64, i: usize, n: usize) -> usize {
+// The first node from a place on that is of one kind, and 255 if there is none.
+fn first_like(t: Nodes, wanted: u8, from: usize) -> usize {
+    for j in from..16 {
+        if kind(t, j) == wanted {
+            return j;
+        }
+    }
+    255
+}
+
+// A node of T for node i of Q: the first from j on that is of its kind, or the first of all. Now and then, and if T has none, it is j itself.
+fn like_node(state: &mut u64, q: Nodes, t: Nodes, i: usize, j: usize) -> usize {
+    if draw(state, 12) == 0 {
+        return j;
+    }
+    let behind = first_like(t, kind(q, i), j);
+    if behind < 255 {
+        return behind;
+    }
+    let first = first_like(t, kind(q, i), 0);
+    if first < 255 { first } else { j }
+}
+
+// A number for a node of T: half the time that of the node of Q.
+fn number_for(state: &mut u64, i: usize, n: usize) -> usize {
     if draw(state, 2) == 0 {
         if i < n {
             return i;
         }
     }
     draw(state, n)
+}
+
+// A node of T for a node of Q.
+fn partner(state: &mut u64, q: Nodes, t: Nodes, i: usize) -> usize {
+    let j = number_for(state, i, t.n);
+    like_node(state, q, t, i, j)
 }
 
 // The parent, or with two steps the parent's, unless that is past the root.
@@ -51,11 +81,19 @@ fn above(t: Nodes, i: usize, two: bool) -> usize {
     p
 }
 
+// Whether a path ends before a pair: mostly so, if its nodes are unlike.
+fn ends_before(state: &mut u64, q: Nodes, t: Nodes, i: usize, j: usize) -> bool {
+    if kind(q, i) == kind(t, j) {
+        return false;
+    }
+    0 < draw(state, 12)
+}
+
 // Pairs along a path of both trees, up to their roots at most.
 fn along(state: &mut u64, q: Nodes, t: Nodes, count: usize) -> List {
     let mut l = no_pairs();
     let mut i = draw(state, q.n);
-    let mut j = partner(state, i, t.n);
+    let mut j = partner(state, q, t, i);
     for _ in 0..count {
         if 254 < i {
             return l;
@@ -67,34 +105,44 @@ fn along(state: &mut u64, q: Nodes, t: Nodes, count: usize) -> List {
         let two = draw(state, 3) == 0;
         i = above(q, i, two);
         j = above(t, j, two);
+        if ends_before(state, q, t, i, j) {
+            return l;
+        }
     }
     l
 }
 
-// Two children of a node with the node, in both trees: the second is the last child.
+// Two children of a node with the node, in both trees: the second is the last child, or in T a node like it.
 fn fork(state: &mut u64, q: Nodes, t: Nodes) -> List {
     let i = draw(state, q.n);
-    let j = partner(state, i, t.n);
+    let j = partner(state, q, t, i);
     let p = parent(q, i);
     let u = parent(t, j);
     let first = with_pair(no_pairs(), i, j);
-    with_pair(with_pair(first, less(p), less(u)), p, u)
+    let last = like_node(state, q, t, less(p), less(u));
+    with_pair(with_pair(first, less(p), last), p, u)
 }
 
-// Numbers that rise.
+// A number behind another, by two or more.
+fn farther(state: &mut u64, i: usize, n: usize) -> usize {
+    plus(more(more(i)), draw(state, n) / 4)
+}
+
+// Numbers that rise, but for a t without a like node behind it.
 fn rising(state: &mut u64, q: Nodes, t: Nodes, count: usize) -> List {
     let mut l = no_pairs();
     let mut i = draw(state, 2);
     let mut j = draw(state, 2);
     for _ in 0..count {
+        j = like_node(state, q, t, i, j);
         l = with_pair(l, i, j);
-        i = plus(more(more(i)), draw(state, q.n) / 4);
-        j = plus(more(more(j)), draw(state, t.n) / 4);
+        i = farther(state, i, q.n);
+        j = farther(state, j, t.n);
     }
     l
 }
 
-// Numbers that are in the trees or just past their ends.
+// Numbers that are in the trees or just past their ends, of any kind.
 fn wild(state: &mut u64, q: Nodes, t: Nodes, count: usize) -> List {
     let mut l = no_pairs();
     for _ in 0..count {
@@ -109,14 +157,14 @@ pub fn list(state: &mut u64, trees: Trees) -> List {
     let q = trees.q;
     let t = trees.t;
     let count = more(draw(state, 3));
-    let way = draw(state, 12);
-    if way < 7 {
+    let way = draw(state, 14);
+    if way < 8 {
         return along(state, q, t, count);
     }
-    if way < 9 {
+    if way < 10 {
         return fork(state, q, t);
     }
-    if way < 11 {
+    if way < 13 {
         return rising(state, q, t, count);
     }
     wild(state, q, t, count)

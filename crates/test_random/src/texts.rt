@@ -1,4 +1,4 @@
-// Random texts, and all texts of one byte and of two, held to grounds 1 to 4 and 24 and to the leftmost leaves of their trees.
+// Random texts, and all texts of one byte and of two, held to grounds 1 to 4 and 24 and to the leftmost leaves and the kinds of their nodes.
 use super::samples::Sample;
 use super::samples::empty;
 use super::samples::flawed;
@@ -11,6 +11,7 @@ use super::tally::none;
 use super::tally::print_sample;
 use answer::Answer;
 use test_brute::nodes::Nodes;
+use test_brute::nodes::kind;
 use test_brute::nodes::leftmost;
 use test_brute::nodes::nodes_of;
 use test_brute::texts::Verdict;
@@ -21,6 +22,18 @@ use test_words::answers::place_of;
 use test_words::plain::part;
 use test_words::plain::small;
 use test_words::plain::wide;
+
+// Whether the nodes of a tree that was read are of these kinds: it has them of all below the added root, which is the last.
+fn are_kinds_of(kinds: [u8; 256], nodes: Nodes) -> bool {
+    for i in 0..16 {
+        if i + 1 < nodes.n {
+            if kinds[i] != kind(nodes, i) {
+                return false;
+            }
+        }
+    }
+    true
+}
 
 // Whether a tree that was read has these nodes.
 fn is_tree_of(n: usize, left: [u8; 256], nodes: Nodes) -> bool {
@@ -60,20 +73,33 @@ fn stretch_refused(s: &[u8], v: Verdict) -> bool {
     stretch::part(s, 0, 0).len() == 0
 }
 
+// The nodes of the tree that stands beside an answer: those of "." beside a refusal.
+fn nodes_asked(s: &[u8], ground: usize) -> Nodes {
+    if ground == 0 {
+        return nodes_of(s);
+    }
+    nodes_of(b".")
+}
+
 fn read_right(s: &[u8]) -> bool {
     let r = tree::read(s);
     let tree = r.tree;
     let answer = r.answer;
+    let left = tree.left;
+    let kinds = tree.kinds;
     let v = judge(s);
+    let nodes = nodes_asked(s, v.ground);
     if !is_answer(answer, v) {
         return false;
     }
-    if v.ground == 0 {
-        let left = tree.left;
-        return is_tree_of(tree.n, left, nodes_of(s));
-    }
-    if tree.n != 2 {
+    if !is_tree_of(tree.n, left, nodes) {
         return false;
+    }
+    if !are_kinds_of(kinds, nodes) {
+        return false;
+    }
+    if v.ground == 0 {
+        return true;
     }
     stretch_refused(s, v)
 }
