@@ -1,23 +1,29 @@
 //! The examples of documents 01 and 02 that the printed lines can show, with what they print.
 
 use crate::inputs::join;
+use crate::kinds;
 use crate::reference::read_tree;
 
-const A: &[u8] = b"(.(.)).";
-const B: &[u8] = b"(.)(.)";
+pub const A: &[u8] = b"(.(.)).";
+pub const B: &[u8] = b"(.)(.)";
+/// The deck example of document 01; its second seed is of unlike nodes.
 const DECK: [u8; 24] = [
     2, 0, 0, 2, 0, 0, 0, 3, 0, 1, 0, 0, 0, 2, 0, 2, 2, 1, 0, 0, 4, 3, 0, 0,
 ];
+/// The same with (4,2) as the second seed.
+const LIKE_DECK: [u8; 24] = [
+    2, 0, 0, 2, 0, 0, 0, 3, 0, 1, 0, 0, 0, 2, 0, 2, 2, 1, 0, 0, 4, 2, 0, 0,
+];
 
-type Seed<'a> = (i32, &'a [(u8, u8)]);
+pub type Seed<'a> = (i32, &'a [(u8, u8)]);
 
 /// An input with its lines.
-type Row = (Vec<u8>, &'static str);
+pub type Row = (Vec<u8>, &'static str);
 
 const NOTHING: &str = "score 0\nchain\n";
 
 /// Q, T and the seeds in plain form.
-fn input(q: &[u8], t: &[u8], seeds: &[Seed]) -> Vec<u8> {
+pub fn input(q: &[u8], t: &[u8], seeds: &[Seed]) -> Vec<u8> {
     let count: usize = seeds.iter().map(|seed| seed.1.len()).sum();
     let mut bytes = [
         q,
@@ -46,14 +52,19 @@ fn input(q: &[u8], t: &[u8], seeds: &[Seed]) -> Vec<u8> {
     bytes
 }
 
-/// The example deck behind A and B.
+/// Two seeds of like nodes on A and B.
 pub fn two_seeds() -> Vec<u8> {
+    join(A, B, &LIKE_DECK)
+}
+
+/// The deck of document 01 behind A and B.
+pub fn two_seeds_unlike() -> Vec<u8> {
     join(A, B, &DECK)
 }
 
-/// The same with A and B written in all kinds of brackets and five unpaired characters.
+/// Two seeds of like nodes with A and B written in all kinds of brackets and five unpaired characters.
 pub fn two_seeds_in_wuss() -> Vec<u8> {
-    join(b"<_[-]>:", b"{~}(,)", &DECK)
+    join(b"<_[-]>:", b"{~}(,)", &LIKE_DECK)
 }
 
 /// One seed on the added roots of two empty texts.
@@ -61,22 +72,28 @@ pub fn on_empty_texts() -> Vec<u8> {
     input(b"", b"", &[(5, &[(0, 0)])])
 }
 
-fn one(score: i32, pairs: &[(u8, u8)]) -> Vec<u8> {
-    input(A, B, &[(score, pairs)])
+/// Seeds on A and B.
+pub fn on_a_and_b(seeds: &[Seed]) -> Vec<u8> {
+    input(A, B, seeds)
 }
 
-fn five(fourth: i32) -> Vec<u8> {
-    input(
-        A,
-        B,
-        &[
-            (3, &[(2, 1)]),
-            (2, &[(4, 3)]),
-            (1, &[(1, 0)]),
-            (fourth, &[(3, 1)]),
-            (-1, &[(0, 2)]),
-        ],
-    )
+pub fn one(score: i32, pairs: &[(u8, u8)]) -> Vec<u8> {
+    on_a_and_b(&[(score, pairs)])
+}
+
+/// The five seeds of document 01, of which the second is of unlike nodes.
+const FIVE: [Seed; 5] = [
+    (3, &[(2, 1)]),
+    (2, &[(4, 3)]),
+    (1, &[(1, 0)]),
+    (3, &[(3, 1)]),
+    (-1, &[(0, 2)]),
+];
+
+/// The four that are left, with a score for the third.
+fn four(third: i32) -> Vec<u8> {
+    let seeds = [FIVE[0], FIVE[2], (third, FIVE[3].1), FIVE[4]];
+    on_a_and_b(&seeds)
 }
 
 fn text(q: &[u8]) -> Vec<u8> {
@@ -86,43 +103,39 @@ fn text(q: &[u8]) -> Vec<u8> {
 /// Inputs with their lines.
 pub fn all() -> Vec<Row> {
     [
-        on_a_and_b(),
+        of_a_and_b(),
         on_one_text(),
         how_open_questions_are_read(),
         without_structure(),
         in_wuss(),
         judged_before_the_rest(),
+        kinds::examples(),
         from_files(),
     ]
     .concat()
 }
 
-fn on_a_and_b() -> Vec<Row> {
+fn of_a_and_b() -> Vec<Row> {
     vec![
-        (one(1, &[(2, 0), (5, 4)]), "refused 19 seed 1\n"),
-        (one(1, &[(0, 0), (1, 1)]), "refused 17 seed 1\n"),
+        (one(1, &[(2, 0), (5, 4)]), "refused 25 seed 1\n"),
+        (one(1, &[(0, 0), (1, 1)]), "refused 25 seed 1\n"),
+        (one(1, &[(0, 0), (2, 1)]), "refused 17 seed 1\n"),
         (one(1, &[(0, 0), (4, 2)]), "refused 18 seed 1\n"),
+        (one(1, &[(1, 0), (5, 4)]), "refused 19 seed 1\n"),
         (one(1, &[(1, 0), (3, 1)]), "score 1\nchain 1\n"),
         (one(1, &[(3, 1), (5, 4)]), "score 1\nchain 1\n"),
-        (input(A, B, &[]), NOTHING),
+        (on_a_and_b(&[]), NOTHING),
         (one(0, &[(0, 0)]), NOTHING),
         (one(-1, &[(0, 0)]), NOTHING),
-        (five(3), "score 6\nchain 1 2 3\n"),
-        (five(4), "score 7\nchain 2 3 4\n"),
-        // Seed 2 withdrawn: the deck goes without it, so 3 and 4 are 2 and 3 here.
+        (on_a_and_b(&FIVE), "refused 25 seed 2\n"),
+        (four(3), "score 4\nchain 1 2\n"),
+        (four(4), "score 5\nchain 2 3\n"),
+        // Seed 2 withdrawn: the deck goes without it, so 3 is 2 here.
         (
-            input(
-                A,
-                B,
-                &[
-                    (3, &[(2, 1)]),
-                    (1, &[(1, 0)]),
-                    (4, &[(3, 1)]),
-                    (-1, &[(0, 2)]),
-                ],
-            ),
-            "score 5\nchain 2 3\n",
+            on_a_and_b(&[FIVE[0], (4, FIVE[3].1), FIVE[4]]),
+            "score 4\nchain 2\n",
         ),
+        (two_seeds_unlike(), "refused 25 seed 2\n"),
         (two_seeds(), "score 5\nchain 1 2\n"),
         (one(1_000_000, &[(0, 0)]), "score 1000000\nchain 1\n"),
         (one(1_000_001, &[(0, 0)]), "refused 11 seed 1\n"),
@@ -166,7 +179,7 @@ fn without_structure() -> Vec<Row> {
             "score 7\nchain 2\n",
         ),
         (
-            input(b"", b".", &[(1, &[(0, 0)]), (1, &[(0, 1)])]),
+            input(b"", b".", &[(1, &[(0, 1)]), (1, &[(0, 1)])]),
             "score 1\nchain 1\n",
         ),
         (input(b"", b"(.)", &[(3, &[(0, 2)])]), "score 3\nchain 1\n"),

@@ -1,13 +1,15 @@
 //! Inputs that do not hang on chance: at the limits, every small change, every small list.
 
-use crate::examples::{files_in_wuss, on_empty_texts, two_seeds, two_seeds_in_wuss};
+use crate::examples::{
+    files_in_wuss, on_a_and_b, on_empty_texts, two_seeds, two_seeds_in_wuss, two_seeds_unlike,
+};
 use crate::inputs::{full_deck, join, must_read, plain_deck, texts_of};
 use crate::random::Random;
 use crate::reference::{read_tree, Pair};
 use crate::texts::{in_all_characters, nest_of, other_kinds, texts_over, CLOSINGS, OPENINGS};
 
 /// The inputs at the limits, every change of one byte and every cut of small ones, every change of a
-/// bracket of larger ones, and given texts.
+/// bracket of larger ones, given texts, and seeds of unlike nodes.
 pub fn fixed_inputs() -> Vec<Vec<u8>> {
     let mut inputs = vec![
         Vec::new(),
@@ -31,7 +33,7 @@ pub fn fixed_inputs() -> Vec<Vec<u8>> {
         inputs.push(join(b"..", b"..", &full_deck(seeds, pairs)));
     }
     inputs.push(most_pairs());
-    for small in [two_seeds(), two_seeds_in_wuss(), on_empty_texts()] {
+    for small in small_inputs() {
         inputs.extend(changes_of(&small));
     }
     for input in files_in_wuss() {
@@ -39,6 +41,8 @@ pub fn fixed_inputs() -> Vec<Vec<u8>> {
     }
     inputs.extend(given_texts().iter().flat_map(|text| as_q_and_t(text)));
     inputs.extend(one_before_the_other());
+    inputs.extend(kind_against_kind());
+    inputs.extend(ground_beside_ground());
     inputs
 }
 
@@ -46,6 +50,15 @@ pub fn fixed_inputs() -> Vec<Vec<u8>> {
 fn most_pairs() -> Vec<u8> {
     let all: Vec<Pair> = (0..=255).map(|node| Pair { q: node, t: node }).collect();
     join(&[b'.'; 255], &[b'.'; 255], &plain_deck(&vec![(5, all); 4]))
+}
+
+fn small_inputs() -> [Vec<u8>; 4] {
+    [
+        two_seeds(),
+        two_seeds_unlike(),
+        two_seeds_in_wuss(),
+        on_empty_texts(),
+    ]
 }
 
 fn changes_of(input: &[u8]) -> Vec<Vec<u8>> {
@@ -120,18 +133,69 @@ fn one_before_the_other() -> Vec<Vec<u8>> {
     texts.iter().flat_map(|&q| with_any_t(q)).collect()
 }
 
+/// Every pair as a seed, with one number beyond each tree, on every two of texts with all kinds of
+/// nodes, unpaired bases and bracket pairs as leaves, and unlike brackets.
+fn kind_against_kind() -> Vec<Vec<u8>> {
+    let texts: [&[u8]; 8] = [b"", b".", b"~", b"()", b"<>", b"(.)", b"[_]", b"{<>,}-"];
+    let mut inputs = Vec::new();
+    for q in texts {
+        for t in texts {
+            let pairs = pairs_on(q, t, 1);
+            inputs.extend(
+                pairs
+                    .iter()
+                    .map(|&pair| join(q, t, &plain_deck(&[(1, vec![pair])]))),
+            );
+        }
+    }
+    inputs
+}
+
+/// On A and B two accepted lists, one for each of 15 to 19, two for 25 alone and three for 25 with 17, 18
+/// and 19: every two as two seeds, with scores in range and beyond, and as one seed.
+fn ground_beside_ground() -> Vec<Vec<u8>> {
+    let lists: [&[(u8, u8)]; 12] = [
+        &[(3, 1)],
+        &[(1, 0), (3, 1)],
+        &[(0, 6)],
+        &[(0, 0), (0, 0)],
+        &[(0, 0), (2, 1)],
+        &[(0, 0), (4, 2)],
+        &[(1, 0), (5, 4)],
+        &[(0, 1)],
+        &[(4, 0), (5, 1)],
+        &[(0, 0), (1, 1)],
+        &[(0, 0), (4, 3)],
+        &[(2, 0), (5, 4)],
+    ];
+    let mut inputs = Vec::new();
+    for first in lists {
+        for second in lists {
+            inputs.push(on_a_and_b(&[(1, &[first, second].concat())]));
+            for scores in [(1, 1), (1_000_001, 1), (1, -1_000_001)] {
+                inputs.push(on_a_and_b(&[(scores.0, first), (scores.1, second)]));
+            }
+        }
+    }
+    inputs
+}
+
+/// Every pair of two numbers of nodes, and of so many numbers beyond each tree.
+fn pairs_on(q: &[u8], t: &[u8], beyond: usize) -> Vec<Pair> {
+    let (q_end, t_end) = (must_read(q).count + beyond, must_read(t).count + beyond);
+    (0..q_end)
+        .flat_map(|q| (0..t_end).map(move |t| (q as u8, t as u8)))
+        .map(|(q, t)| Pair { q, t })
+        .collect()
+}
+
 /// Every list of one to three pairs, with two numbers beyond each tree, on every two structures of up
 /// to four bytes.
 pub fn small_lists(visit: &mut dyn FnMut(&[u8])) {
     let texts = small_structures(4);
     for q in &texts {
         for t in &texts {
-            let (q_count, t_count) = (must_read(q).count, must_read(t).count);
-            let pairs: Vec<Pair> = (0..=q_count + 1)
-                .flat_map(|q| (0..=t_count + 1).map(move |t| (q as u8, t as u8)))
-                .map(|(q, t)| Pair { q, t })
-                .collect();
-            lists_of(&pairs, 3, &mut Vec::new(), &mut |list| {
+            lists_of(&pairs_on(q, t, 2), 3, &mut Vec::new(), &mut |list| {
                 visit(&join(q, t, &plain_deck(&[(1, list.to_vec())])))
             });
         }

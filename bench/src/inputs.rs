@@ -2,8 +2,9 @@
 //! name.
 
 use crate::random::Random;
-use crate::reference::{read_tree, Pair, Tree};
-use crate::texts::{damage_text, in_some_characters, some_texts};
+use crate::reference::{read_tree, some_node_is_missing, Pair, Tree};
+use crate::texts::{damage_text, exchange_leaves, in_some_characters, some_texts};
+use std::ops::Range;
 
 /// What an input is made from: two texts, and seeds as scores with pairs.
 #[derive(Clone)]
@@ -17,9 +18,10 @@ pub struct Draft {
 pub fn any_input(random: &mut Random) -> Vec<u8> {
     let draft = valid_draft(random);
     match random.below(100) {
-        0..=36 => lay_out(random, &draft),
-        37..=59 => with_bad_seeds(random, draft),
-        60..=73 => with_bad_deck(random, &draft, damage_records),
+        0..=34 => lay_out(random, &draft),
+        35..=59 => with_bad_seeds(random, draft),
+        60 | 61 => with_other_leaves(random, draft),
+        62..=73 => with_bad_deck(random, &draft, damage_records),
         74..=78 => with_bad_deck(random, &draft, damage_layout),
         79..=92 => with_bad_texts(random, draft),
         93..=97 => {
@@ -38,6 +40,15 @@ fn with_bad_seeds(random: &mut Random, mut draft: Draft) -> Vec<u8> {
     damage_seed(random, &mut draft);
     if random.chance(25) {
         damage_seed(random, &mut draft);
+    }
+    lay_out(random, &draft)
+}
+
+/// The trees keep their shape, so that 25 is all that the seeds can meet.
+fn with_other_leaves(random: &mut Random, mut draft: Draft) -> Vec<u8> {
+    for text in [&mut draft.q, &mut draft.t] {
+        let count = random.pick(&[0, 1, 3, 10]);
+        exchange_leaves(random, text, count);
     }
     lay_out(random, &draft)
 }
@@ -115,13 +126,11 @@ fn next_pairs(
     room: usize,
 ) -> Vec<Pair> {
     let in_q = fringe(random, q, upper.q);
-    let in_t = if alike {
-        in_q.clone()
-    } else {
-        fringe(random, t, upper.t)
-    };
-    let least = must(&in_q).max(must(&in_t));
-    let most = in_q.len().min(in_t.len()).min(room);
+    if !alike {
+        let in_t = fringe(random, t, upper.t);
+        return like_pairs(random, (q, &in_q), (t, &in_t), room);
+    }
+    let (least, most) = (must(&in_q), in_q.len().min(room));
     if least > most {
         return Vec::new();
     }
@@ -130,16 +139,66 @@ fn next_pairs(
     } else {
         random.size(least, most)
     };
-    let qs = choose(random, &in_q, size);
-    let ts = if alike {
-        qs.clone()
-    } else {
-        choose(random, &in_t, size)
-    };
-    qs.iter().zip(&ts).map(|(&q, &t)| Pair { q, t }).collect()
+    let chosen = choose(random, &in_q, size);
+    chosen
+        .iter()
+        .map(|&node| Pair { q: node, t: node })
+        .collect()
 }
 
-/// A valid seed: from its last pair down, every border node is paired.
+/// Like nodes of two fringes paired from left to right, all those that must be among them; none if
+/// this does not come out.
+fn like_pairs(
+    random: &mut Random,
+    (q, in_q): (&Tree, &[(u8, bool)]),
+    (t, in_t): (&Tree, &[(u8, bool)]),
+    room: usize,
+) -> Vec<Pair> {
+    let keep = random.pick(&[50, 90, 100]);
+    let (mut rest_q, mut rest_t) = (in_q, in_t);
+    let mut pairs = Vec::new();
+    while let (&[(q_node, must_q), ..], &[(t_node, must_t), ..]) = (rest_q, rest_t) {
+        let pair = Pair {
+            q: q_node,
+            t: t_node,
+        };
+        let may = pairs.len() < room && is_like(q, t, pair);
+        if may && (must_q && must_t || random.chance(keep)) {
+            pairs.push(pair);
+            (rest_q, rest_t) = (&rest_q[1..], &rest_t[1..]);
+        } else if !must_q && (must_t || random.chance(50)) {
+            rest_q = &rest_q[1..];
+        } else if !must_t {
+            rest_t = &rest_t[1..];
+        } else {
+            return Vec::new();
+        }
+    }
+    if must(rest_q) + must(rest_t) > 0 {
+        return Vec::new();
+    }
+    pairs
+}
+
+fn is_like(q: &Tree, t: &Tree, pair: Pair) -> bool {
+    q.kind[pair.q as usize] == t.kind[pair.t as usize]
+}
+
+/// The pair with the nearest node of T that is like; if T has none, the two roots.
+fn made_like(q: &Tree, t: &Tree, pair: Pair) -> Pair {
+    let like = (0..t.count).map(|node| Pair {
+        q: pair.q,
+        t: node as u8,
+    });
+    like.filter(|&pair| is_like(q, t, pair))
+        .min_by_key(|like| like.t.abs_diff(pair.t))
+        .unwrap_or(Pair {
+            q: (q.count - 1) as u8,
+            t: (t.count - 1) as u8,
+        })
+}
+
+/// A valid seed, if its last pair is of like nodes: from there down, every border node is paired.
 fn grow_seed(
     random: &mut Random,
     q: &Tree,
@@ -189,7 +248,7 @@ fn some_seed_count(random: &mut Random) -> usize {
     }
 }
 
-/// A last pair; for like trees mostly the same node twice, so that many seeds chain.
+/// A last pair of like nodes; for like trees mostly the same node twice, so that many seeds chain.
 fn some_last(random: &mut Random, q: &Tree, t: &Tree, alike: bool) -> Pair {
     let (mut low_q, mut low_t) = (random.below(q.count), random.below(t.count));
     if alike && random.chance(85) {
@@ -201,10 +260,11 @@ fn some_last(random: &mut Random, q: &Tree, t: &Tree, alike: bool) -> Pair {
     if random.chance(2) {
         (low_q, low_t) = (q.count - 1, t.count - 1);
     }
-    Pair {
+    let drawn = Pair {
         q: low_q as u8,
         t: low_t as u8,
-    }
+    };
+    made_like(q, t, drawn)
 }
 
 fn valid_draft(random: &mut Random) -> Draft {
@@ -315,7 +375,7 @@ fn lay_out(random: &mut Random, draft: &Draft) -> Vec<u8> {
     join(&draft.q, &draft.t, &some_deck(random, draft))
 }
 
-// ---- damage to one seed: grounds 11 to 19 ----
+// ---- damage to one seed: grounds 11 to 19 and 25 ----
 
 fn damage_seed(random: &mut Random, draft: &mut Draft) {
     let (q, t) = (must_read(&draft.q), must_read(&draft.t));
@@ -331,10 +391,10 @@ fn damage_seed(random: &mut Random, draft: &mut Draft) {
             q: inner_node(random, &q),
             t: inner_node(random, &t),
         };
-        *pairs = grow_seed(random, &q, &t, last, false, 20);
+        *pairs = grow_seed(random, &q, &t, made_like(&q, &t, last), false, 20);
     }
     let at = random.below(pairs.len());
-    match random.below(18) {
+    match random.below(22) {
         0 => *score = bad_score(random),
         1 => pairs[at].q = outside(random, &q),
         2 => pairs[at].t = outside(random, &t),
@@ -347,7 +407,21 @@ fn damage_seed(random: &mut Random, draft: &mut Draft) {
         11 | 12 if total <= 1000 => *pairs = bare_path(random, &q, &t),
         13 | 14 if total <= 1000 => *pairs = rising_lists(random, &q, &t),
         15 if total <= 1000 => *pairs = leaves(random, &q, &t),
-        _ => other_ts(random, pairs, &t),
+        16 | 17 => {
+            pairs[at].t = random.below(t.count) as u8;
+            return;
+        }
+        _ => other_ts(random, pairs, &q, &t),
+    }
+    // Unlike nodes would hide the grounds that come after 25, so few of them stay.
+    if !some_node_is_missing(&q, &t, pairs) && random.chance(85) {
+        make_all_like(&q, &t, pairs);
+    }
+}
+
+fn make_all_like(q: &Tree, t: &Tree, pairs: &mut [Pair]) {
+    for pair in pairs {
+        *pair = made_like(q, t, *pair);
     }
 }
 
@@ -358,14 +432,23 @@ fn thin_out(random: &mut Random, pairs: &mut Vec<Pair>) {
     pairs.retain(|pair| *pair == last || random.chance(keep));
 }
 
-/// Other numbers below the last t, still rising, so that ancestry may differ.
-fn other_ts(random: &mut Random, pairs: &mut [Pair], t: &Tree) {
-    let last = pairs[pairs.len() - 1].t;
-    let left = t.left(last);
-    let ts = rising(random, (last - left) as usize, pairs.len() - 1);
-    ts.iter()
-        .zip(pairs)
-        .for_each(|(&down, pair)| pair.t = left + down);
+/// Other nodes below the last t, so that ancestry may differ.
+fn other_ts(random: &mut Random, pairs: &mut [Pair], q: &Tree, t: &Tree) {
+    if let Some((last, others)) = pairs.split_last_mut() {
+        spread(random, others, q, t, t.left(last.t)..last.t);
+    }
+}
+
+/// Each t anew: one of the next few nodes that are like, as long as there are some.
+fn spread(random: &mut Random, pairs: &mut [Pair], q: &Tree, t: &Tree, mut nodes: Range<u8>) {
+    for pair in pairs {
+        let few = random.pick(&[1, 2, 5]);
+        let like = |node: &u8| is_like(q, t, Pair { t: *node, ..*pair });
+        if let Some(node) = nodes.clone().filter(like).take(few).last() {
+            pair.t = node;
+            nodes.start = node + 1;
+        }
+    }
 }
 
 fn bad_score(random: &mut Random) -> i32 {
@@ -448,8 +531,10 @@ pub fn rising(random: &mut Random, count: usize, size: usize) -> Vec<u8> {
 
 fn rising_lists(random: &mut Random, q: &Tree, t: &Tree) -> Vec<Pair> {
     let size = random.size(2, 5).min(q.count).min(t.count);
-    let (qs, ts) = (rising(random, q.count, size), rising(random, t.count, size));
-    qs.iter().zip(&ts).map(|(&q, &t)| Pair { q, t }).collect()
+    let qs = rising(random, q.count, size);
+    let mut pairs: Vec<Pair> = qs.iter().map(|&q| Pair { q, t: 0 }).collect();
+    spread(random, &mut pairs, q, t, 0..(t.count - 1) as u8);
+    pairs
 }
 
 fn leaves(random: &mut Random, q: &Tree, t: &Tree) -> Vec<Pair> {

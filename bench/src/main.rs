@@ -4,6 +4,7 @@ mod examples;
 mod families;
 mod fixed;
 mod inputs;
+mod kinds;
 mod library;
 mod quick;
 mod random;
@@ -19,7 +20,7 @@ use std::process::exit;
 use texts::{in_dot_bracket, kinds_in};
 
 /// The refusals that the printed lines can name, as they are counted.
-const REFUSALS: [&str; 20] = [
+const REFUSALS: [&str; 21] = [
     "refused  1 Q",
     "refused  1 T",
     "refused  2 Q",
@@ -40,6 +41,7 @@ const REFUSALS: [&str; 20] = [
     "refused 19 seed",
     "refused 24 Q",
     "refused 24 T",
+    "refused 25 seed",
 ];
 /// What is counted of the texts of accepted inputs.
 const ACCEPTED: [&str; 3] = [
@@ -199,6 +201,9 @@ fn check_examples(checker: &mut Checker) {
     if !examples::leftmost_leaves_are_right() {
         fail("the leftmost leaves of the example trees", b"");
     }
+    if !kinds::are_right() {
+        fail("the kinds of the nodes of example texts", b"");
+    }
     if !examples::texts_of_one_byte_are_right() {
         fail("the texts of one byte", b"");
     }
@@ -209,7 +214,7 @@ fn check_fixed(checker: &mut Checker) {
     let inputs = fixed::fixed_inputs();
     inputs.iter().for_each(|input| checker.check(input));
     println!(
-        "limits, changes of one byte, short texts: {} alike",
+        "limits, changes of one byte, short texts, unlike nodes: {} alike",
         inputs.len()
     );
 }

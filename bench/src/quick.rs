@@ -2,8 +2,8 @@
 //! replaced where a shorter look is enough; the self-check holds both against each other.
 
 use crate::reference::{
-    best_chain, not_rising, open, print_chain, print_refusal, refuse_if, score_is_out_of_range,
-    some_node_is_missing, Nodes, Pair, Seed, Session, Tree,
+    best_chain, open, print_chain, print_refusal, refuse_if, score_is_out_of_range, Nodes, Pair,
+    Seed, Session, Tree,
 };
 
 pub fn report(input: &[u8]) -> Vec<u8> {
@@ -16,8 +16,10 @@ pub fn report(input: &[u8]) -> Vec<u8> {
 fn check_seed(q: &Tree, t: &Tree, seed: &mut Seed, pairs: &[Pair]) -> Result<(), u8> {
     let (first, last) = (pairs[0], pairs[pairs.len() - 1]);
     refuse_if(score_is_out_of_range(seed.score), 11)?;
-    refuse_if(some_node_is_missing(q, t, pairs), 15)?;
-    refuse_if(not_rising(pairs), 16)?;
+    let (missing, unlike, falling) = faults(q, t, pairs);
+    refuse_if(missing, 15)?;
+    refuse_if(unlike, 25)?;
+    refuse_if(falling, 16)?;
     refuse_if(ancestry_differs(q, t, pairs), 17)?;
     // The numbers rise, so the first one is the only one to look at.
     refuse_if(q.left(last.q) > first.q || t.left(last.t) > first.t, 18)?;
@@ -25,6 +27,21 @@ fn check_seed(q: &Tree, t: &Tree, seed: &mut Seed, pairs: &[Pair]) -> Result<(),
     let (span_t, bare_t) = span(t, pairs, |pair| pair.t);
     (seed.span_q, seed.span_t) = (span_q, span_t);
     refuse_if(bare_q || bare_t, 19)
+}
+
+/// Whether a node is missing, two are unlike, or the numbers do not rise, all in one pass. A number that
+/// is no node has a kind too, but then the first of the three comes before.
+fn faults(q: &Tree, t: &Tree, pairs: &[Pair]) -> (bool, bool, bool) {
+    let (mut missing, mut unlike, mut falling) = (false, false, false);
+    let (mut q_from, mut t_from) = (0, 0);
+    for pair in pairs {
+        let (q_node, t_node) = (pair.q as usize, pair.t as usize);
+        missing |= q_node >= q.count || t_node >= t.count;
+        unlike |= q.kind[q_node] != t.kind[t_node];
+        falling |= q_node < q_from || t_node < t_from;
+        (q_from, t_from) = (q_node + 1, t_node + 1);
+    }
+    (missing, unlike, falling)
 }
 
 /// The pairs below a pair are those just before it, so in both trees they must begin at one place.

@@ -35,12 +35,21 @@ impl Nodes {
     }
 }
 
+/// What a node stands for; only like nodes map to one another (document 02, c).
+#[derive(Clone, Copy, PartialEq, Eq, Debug)]
+pub enum NodeKind {
+    Unpaired,
+    BasePair,
+    Root,
+}
+
 /// A structure; its nodes are numbered in postfix order and the added root comes last.
 pub struct Tree {
     pub count: usize,
     pub leftmost: [u8; 256],
     pub parent: [u8; 256],
     pub kids: [u8; 256],
+    pub kind: [NodeKind; 256],
 }
 
 impl Tree {
@@ -50,11 +59,12 @@ impl Tree {
             leftmost: [0; 256],
             parent: [0; 256],
             kids: [0; 256],
+            kind: [NodeKind::Unpaired; 256],
         }
     }
 
     /// The next node takes everything from `leftmost` on as its subtree.
-    fn close(&mut self, leftmost: usize) {
+    fn close(&mut self, leftmost: usize, kind: NodeKind) {
         let node = self.count;
         let mut kid = node;
         while kid > leftmost {
@@ -64,6 +74,8 @@ impl Tree {
             kid = self.leftmost[kid] as usize;
         }
         self.leftmost[node] = leftmost as u8;
+        // Told by the text: a leaf may be an unpaired base, a bracket pair around nothing or the root.
+        self.kind[node] = kind;
         self.count += 1;
     }
 
@@ -137,7 +149,7 @@ pub fn report(input: &[u8]) -> Vec<u8> {
     }
 }
 
-/// Reads an input; `check` judges one seed by grounds 11 to 19 and sets its spans.
+/// Reads an input; `check` judges one seed by grounds 11 to 19 and 25 and sets its spans.
 pub fn open(
     input: &[u8],
     check: impl Fn(&Tree, &Tree, &mut Seed, &[Pair]) -> Result<(), u8>,
@@ -221,14 +233,14 @@ pub fn read_tree(text: &[u8]) -> Result<Tree, (u8, usize)> {
     // For each open bracket its byte position, the first node inside and its kind.
     let mut open = [(0, 0, Kind::Round); TEXT_LIMIT];
     let mut depth = 0;
-    // Grounds 3 and 4 come before 24, so the first unlike closing bracket waits for the end.
-    let mut unlike = None;
+    // Grounds 3 and 4 come before 24, so the first closing bracket of another kind waits for the end.
+    let mut other_kind = None;
     let mut tree = Tree::new();
     for (at, &byte) in text.iter().enumerate() {
         let meaning = MEANINGS[byte as usize];
         // One test after another: a jump by the meaning is foretold badly where texts vary.
         if meaning == Meaning::Unpaired {
-            tree.close(tree.count);
+            tree.close(tree.count, NodeKind::Unpaired);
         } else if let Meaning::Opening(kind) = meaning {
             open[depth] = (at as u8, tree.count as u8, kind);
             depth += 1;
@@ -236,9 +248,9 @@ pub fn read_tree(text: &[u8]) -> Result<Tree, (u8, usize)> {
             depth -= 1;
             let (_, first, partner) = open[depth];
             if kind != partner {
-                unlike = unlike.or(Some(at));
+                other_kind = other_kind.or(Some(at));
             }
-            tree.close(first as usize);
+            tree.close(first as usize, NodeKind::BasePair);
         } else {
             // A refused byte further on comes before a closing bracket that closes nothing.
             return Err(refused_byte(text).map_or((3, at), |at| (2, at)));
@@ -247,8 +259,8 @@ pub fn read_tree(text: &[u8]) -> Result<Tree, (u8, usize)> {
     if depth > 0 {
         return Err((4, open[0].0 as usize));
     }
-    tree.close(0);
-    match unlike {
+    tree.close(0, NodeKind::Root);
+    match other_kind {
         None => Ok(tree),
         Some(at) => Err((24, at)),
     }
@@ -355,17 +367,25 @@ pub fn some_node_is_missing(q: &Tree, t: &Tree, pairs: &[Pair]) -> bool {
         .any(|pair| pair.q as usize >= q.count || pair.t as usize >= t.count)
 }
 
-pub fn not_rising(pairs: &[Pair]) -> bool {
+/// Both nodes of every pair must be in their trees.
+fn some_nodes_are_unlike(q: &Tree, t: &Tree, pairs: &[Pair]) -> bool {
+    pairs
+        .iter()
+        .any(|pair| q.kind[pair.q as usize] != t.kind[pair.t as usize])
+}
+
+fn not_rising(pairs: &[Pair]) -> bool {
     pairs
         .windows(2)
         .any(|two| two[0].q >= two[1].q || two[0].t >= two[1].t)
 }
 
-/// Grounds 11 to 19 for one seed, by the definitions; the seed gets its spans.
+/// Grounds 11 to 19 and 25 for one seed, by the definitions; the seed gets its spans.
 pub fn check_seed(q: &Tree, t: &Tree, seed: &mut Seed, pairs: &[Pair]) -> Result<(), u8> {
     let (last, others) = pairs.split_last().expect("a walk has at least one record");
     refuse_if(score_is_out_of_range(seed.score), 11)?;
     refuse_if(some_node_is_missing(q, t, pairs), 15)?;
+    refuse_if(some_nodes_are_unlike(q, t, pairs), 25)?;
     refuse_if(not_rising(pairs), 16)?;
     refuse_if(
         pairs

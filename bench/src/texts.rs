@@ -107,6 +107,20 @@ pub fn in_some_characters(random: &mut Random, text: &[u8]) -> Vec<u8> {
     written_in(random, text, &kinds[..few_kinds], &unpaired[..few_unpaired])
 }
 
+/// Writes up to so many leaves of a structure as the other kind: a dot as a bracket pair around nothing,
+/// and the other way round.
+pub fn exchange_leaves(random: &mut Random, text: &mut Vec<u8>, count: usize) {
+    for _ in 0..count.min(text.len()) {
+        let at = random.below(text.len());
+        let closes = |byte: &u8| CLOSINGS.contains(byte);
+        if UNPAIRED.contains(&text[at]) && text.len() < 255 {
+            text.splice(at..=at, *b"()");
+        } else if OPENINGS.contains(&text[at]) && text.get(at + 1).is_some_and(closes) {
+            text.splice(at..=at + 1, *b".");
+        }
+    }
+}
+
 /// How many kinds of brackets open in a text.
 pub fn kinds_in(text: &[u8]) -> usize {
     OPENINGS.iter().filter(|byte| text.contains(byte)).count()
