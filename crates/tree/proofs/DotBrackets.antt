@@ -1,6 +1,6 @@
 -- Texts in dot-bracket form: when a text is in it, and that a text written in it is read alike.
 use mathlib.Core.Path.{_≡_, refl, sym, ap, ap₂, subst, _∙_}
-use mathlib.Core.Bool.{Bool, true, false, cond, _&&_, _||_, true≢false, false≢true}
+use mathlib.Core.Bool.{Bool, true, false, cond, _&&_, _||_, and-assoc, and-true, true≢false, false≢true}
 use mathlib.Core.Logic.{_⊎_, inl, inr}
 use Prim.Native.Nat.{ℕ, zero, suc, _+_, _-_, _≤_, _<_}
 use native.Mathlib.Omega.{arith}
@@ -26,14 +26,6 @@ use Rattle.tree.specs.inner.DotBracket.{SameRole, SameRoles, isDotBracke
 use Rattle.tree.specs.declared.Tree.{Tree}
 use Rattle.tree.proofs.NodeKinds.{kindsIn, item-kinds-in}
 
-and-assoc : (a b c : Bool) → (a && (b && c)) ≡ ((a && b) && c)
-and-assoc true b c = refl
-and-assoc false b c = refl
-
-and-true : (a : Bool) → (a && true) ≡ a
-and-true true = refl
-and-true false = refl
-
 -- The look whether every byte is a dot or a round bracket: what it has found up to i, and what the rest has.
 pub record DotsTo (s : List ℕ) (i : ℕ) (all : Bool) : Type 0 where
   pub is : inDotBracket s ≡ (all && inDotBracket (drop i s))
@@ -47,7 +39,7 @@ dots-turn s i {all} {k} lt h f g =
       is = h .is
           ∙ ap (λ (x : List ℕ). all && inDotBracket x) (drop-cons s i 0 lt)
           ∙ ap₂ (λ (b : Bool) (j : ℕ). all && (b && inDotBracket (drop j s))) (sym f) (sym (add-one i))
-          ∙ and-assoc all k (inDotBracket (drop (i + 1) s))
+          ∙ sym (and-assoc all k (inDotBracket (drop (i + 1) s)))
           ∙ ap (λ (b : Bool). b && inDotBracket (drop (i + 1) s)) (sym g);
     }
 
