@@ -7,6 +7,11 @@ use lib.Dec.{leb, ltb, eqb}
 use borrow.Author.Tests.{leb-true, le-leb, ltb-true, lt-ltb, eqb-true, eq-eqb}
 use Rattle.answer.specs.Tells.{Tells}
 
+-- Two tests that pass together pass each for itself.
+pub both-true : (a b : Bool) → (a && b) ≡ true → (a ≡ true) × (b ≡ true)
+both-true true b e = (refl, e)
+both-true false b e = absurd (false≢true e)
+
 -- A fact that a test tells holds or does not
 pub decided : (b : Bool) (P : Type 0) → Tells b P → P ⊎ (¬ P)
 decided true P t = inl (t .0 refl)

@@ -1,8 +1,8 @@
--- The numbered grounds for turning a call down (document 01, and 24 and 25 of document 02), and what an answer says by them.
+-- The numbered grounds for turning a call down (document 01, and 23 to 25 of document 02), and what an answer says by them.
 use mathlib.Core.Bool.{Bool, true, false}
 use Prim.Native.Nat.{ℕ}
 use Rattle.answer.specs.declared.Ground.{Ground}
-use Rattle.answer.specs.declared.Ground.the-variants.{TextLength, UnknownByte, ClosesNothing, NeverClosed, DeckLayout, PairIndex, PairReachedTwice, PairNeverReached, NumberNotGiven, PresenceAsAsked, ScoreRange, NoPairs, SeedLimit, PairLimit, OutsideTree, NotRising, AncestryDiffers, LastNotAncestor, BorderUnpaired, ChangeLimit, ScratchShort, OutputShort, ClosesOtherKind, UnlikeNodes}
+use Rattle.answer.specs.declared.Ground.the-variants.{TextLength, UnknownByte, ClosesNothing, NeverClosed, DeckLayout, PairIndex, PairReachedTwice, PairNeverReached, NumberNotGiven, PresenceAsAsked, ScoreRange, NoPairs, SeedLimit, PairLimit, OutsideTree, NotRising, AncestryDiffers, LastNotAncestor, BorderUnpaired, ChangeLimit, ScratchShort, OutputShort, ScoreText, ClosesOtherKind, UnlikeNodes}
 use Rattle.answer.specs.declared.Place.{Place}
 use Rattle.answer.specs.declared.Answer.{Answer}
 use Rattle.answer.specs.declared.Answer.the-variants.{Accepted, Refused}
@@ -53,6 +53,8 @@ numberOf ChangeLimit = 20
 numberOf ScratchShort = 21
 -- The output is shorter than what is to be written.
 numberOf OutputShort = 22
+-- A score text has another form, or stands for a score beyond the bounds (document 02, a).
+numberOf ScoreText = 23
 -- A closing bracket has a partner of another kind (document 02, b).
 numberOf ClosesOtherKind = 24
 -- A pair is of unlike nodes (document 02, c).

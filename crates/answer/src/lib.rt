@@ -27,6 +27,7 @@ pub enum Ground {
     ChangeLimit,
     ScratchShort,
     OutputShort,
+    ScoreText,
     ClosesOtherKind,
     UnlikeNodes,
 }
@@ -78,6 +79,7 @@ pub fn number(ground: Ground) -> usize
         Ground::ChangeLimit => 20,
         Ground::ScratchShort => 21,
         Ground::OutputShort => 22,
+        Ground::ScoreText => 23,
         Ground::ClosesOtherKind => 24,
         Ground::UnlikeNodes => 25,
     }

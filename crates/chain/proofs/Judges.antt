@@ -1,6 +1,6 @@
 -- What the judges of seed numbers, presence and the change count answer, and what an accepted call knows.
 use mathlib.Core.Path.{_≡_, refl, sym, ap, _∙_}
-use mathlib.Core.Bool.{Bool, true, false, not, _&&_, Bool·beq, false≢true}
+use mathlib.Core.Bool.{Bool, true, false, not, Bool·beq}
 use mathlib.Core.List.{List}
 use Prim.Native.Nat.{ℕ, _-_, _≤_, _<_}
 use lib.ListN.{length, getD}
@@ -8,6 +8,7 @@ use lib.IntN.{ℤ}
 use lib.Dec.{leb}
 use borrow.Author.Tests.{leb-true, leb-false, not-false}
 use Rattle.answer.proofs.Given.{not-given}
+use Rattle.answer.proofs.Tells.{both-true}
 use Rattle.answer.specs.declared.Answer.the-variants.{Accepted}
 use Rattle.seed.specs.declared.Pair.{Pair}
 use Rattle.table.specs.Rows.{Row, noRow, givenOut, rowOf, withRow, withPresence, summaryOf, inRange}
@@ -29,10 +30,6 @@ beq-other true true e = e
 beq-other true false e = refl
 beq-other false true e = refl
 beq-other false false e = sym e
-
-both-true : (a b : Bool) → (a && b) ≡ true → (a ≡ true) × (b ≡ true)
-both-true true b e = (refl, e)
-both-true false b e = absurd (false≢true e)
 
 -- A seed number that was given out.
 pub record Given (seeds k : ℕ) : Type 0 where

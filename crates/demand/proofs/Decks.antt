@@ -1,7 +1,7 @@
 -- Demand 2 of the session: what is written of a deck that was opened is its plain form, and the deck that a session writes is opened, on the
 -- same texts, with its present rows by the history.
 use mathlib.Core.Path.{_≡_, refl, sym, ap, ap₂, subst, _∙_}
-use mathlib.Core.Bool.{Bool, true, false, cond, _&&_}
+use mathlib.Core.Bool.{Bool, true, false, cond}
 use mathlib.Core.List.{List, [], _∷_, flatten}
 use Prim.Native.Nat.{ℕ, suc, _+_, _≤_, _<_}
 use native.Mathlib.Omega.{arith}
@@ -11,6 +11,7 @@ use lib.Signed.{mag, leZ}
 use borrow.Author.Tests.{leb-true}
 use Rattle.answer.specs.declared.Answer.{Answer}
 use Rattle.answer.specs.declared.Answer.the-variants.{Accepted}
+use Rattle.answer.proofs.Tells.{both-true}
 use Rattle.write.specs.Wrote.{Wrote}
 use Rattle.write.specs.declared.Written.{Written}
 use Rattle.write.proofs.Wrote.{wrote-front}
@@ -47,14 +48,10 @@ use Rattle.demand.proofs.Histories.{reached-sound, by-history}
 use Rattle.demand.proofs.Openings.{both-spelled, deck-state, reached-state, reached-trees}
 
 -- A score in range is stored as it is.
-and-left : (a b : Bool) → (a && b) ≡ true → a ≡ true
-and-left true b e = refl
-and-left false b e = e
-
 range-small : (z : ℤ) → inRange z ≡ true → mag z < 2147483648
 unfolding inRange
 range-small (pos n) e = omega (arith, leb-true n 1000000 e)
-range-small (negsuc n) e = omega (arith, leb-true n 999999 (and-left (leZ (negsuc 999999) (negsuc n)) true e))
+range-small (negsuc n) e = omega (arith, leb-true n 999999 (both-true (leZ (negsuc 999999) (negsuc n)) true e .0))
 
 -- The present ones of rows that hold seeds can be written, and are judged seeds.
 module _ (q t : Tree) (tree-q : Nested (leavesOf q)) (tree-t : Nested (leavesOf t)) where

@@ -1,6 +1,6 @@
 -- The last pair, which is to be an ancestor of all others, and two lists of nodes as one list of pairs.
 use mathlib.Core.Path.{_≡_, refl, sym, ap, _∙_}
-use mathlib.Core.Bool.{Bool, true, false, _&&_, false≢true}
+use mathlib.Core.Bool.{Bool, true, false, _&&_}
 use mathlib.Core.Logic.{_⊎_, inl, inr}
 use mathlib.Core.List.{List, [], _∷_}
 use Prim.Native.Nat.{ℕ, _-_, _≤_, _<_}
@@ -15,7 +15,7 @@ use Rattle.seed.specs.Pairs.{pairOf, pairsOf}
 use Rattle.seed.specs.declared.Pair.{Pair}
 use Rattle.seed.proofs.Trees.{own}
 use Rattle.answer.specs.Tells.{Tells}
-use Rattle.answer.proofs.Tells.{tells-not-false, tells-le, tells-lt, tells-eq, tells-as, tells-and, tells-or}
+use Rattle.answer.proofs.Tells.{both-true, tells-not-false, tells-le, tells-lt, tells-eq, tells-as, tells-and, tells-or}
 use Rattle.seed.proofs.Sides.{tells-above}
 use Rattle.seed.proofs.PairLists.{count-first, last-pair-at, nodes-first, nodes-second, cut-first, cut-second}
 use Rattle.judge.proofs.JudgeSteps.{last-node-at}
@@ -138,10 +138,6 @@ module _ (a b : List ℕ) (same : length a ≡ length b) (f g : List ℕ → Boo
 
   pub whole-by : f a ≡ true → (f (qs (pairsOf a b)) && g (ts (pairsOf a b))) ≡ g b
   whole-by e = rw (nodes-q a b same, nodes-t a b same, e)
-
-both-true : (x y : Bool) → (x && y) ≡ true → (x ≡ true) × (y ≡ true)
-both-true true y e = (refl, e)
-both-true false y e = absurd (false≢true e)
 
 cut-pairs : (a b : List ℕ) → pairsOf (take (length (pairsOf a b)) a) (take (length (pairsOf a b)) b) ≡ pairsOf a b
 unfolding pairsOf

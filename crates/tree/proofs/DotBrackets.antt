@@ -1,6 +1,6 @@
 -- Texts in dot-bracket form: when a text is in it, and that a text written in it is read alike.
 use mathlib.Core.Path.{_≡_, refl, sym, ap, ap₂, subst, _∙_}
-use mathlib.Core.Bool.{Bool, true, false, cond, _&&_, _||_, and-assoc, and-true, true≢false, false≢true}
+use mathlib.Core.Bool.{Bool, true, false, cond, _&&_, _||_, and-assoc, and-true, true≢false}
 use mathlib.Core.Logic.{_⊎_, inl, inr}
 use Prim.Native.Nat.{ℕ, zero, suc, _+_, _-_, _≤_, _<_}
 use native.Mathlib.Omega.{arith}
@@ -12,6 +12,7 @@ use lib.Dec.{eqb, ltb}
 use borrow.Author.Tests.{eqb-true}
 use Rattle.answer.specs.declared.Ground.the-variants.{UnknownByte}
 use Rattle.answer.specs.declared.Answer.the-variants.{Accepted}
+use Rattle.answer.proofs.Tells.{both-true}
 use Rattle.character.specs.Character.{meaningOf, roleOf, kindOf}
 use Rattle.character.proofs.Bytes.{by-byte}
 use Rattle.character.specs.declared.Role.{Role}
@@ -49,10 +50,6 @@ dots-end s i {all} l h = sym (h .is ∙ ap (λ (x : List ℕ). all && inDotBrack
 or-true : (a b : Bool) → (a || b) ≡ true → (a ≡ true) ⊎ (b ≡ true)
 or-true true b e = inl refl
 or-true false b e = inr e
-
-and-both : (a b : Bool) → (a && b) ≡ true → (a ≡ true) × (b ≡ true)
-and-both true b e = (refl, e)
-and-both false b e = absurd (false≢true e)
 
 -- The kinds of n round brackets that are open.
 abbrev rounds : ℕ → List ℕ
@@ -94,19 +91,19 @@ nothing-refused = refl
 
 pub dots-form : (s : List ℕ) → inDotBracket s ≡ true → SameRoles s
 dots-form [] h i = nothing-refused
-dots-form (c ∷ s) h zero = dot-or-round c (and-both (isDotBracket c) (inDotBracket s) h .0) .form
-dots-form (c ∷ s) h (suc i) = dots-form s (and-both (isDotBracket c) (inDotBracket s) h .1) i
+dots-form (c ∷ s) h zero = dot-or-round c (both-true (isDotBracket c) (inDotBracket s) h .0) .form
+dots-form (c ∷ s) h (suc i) = dots-form s (both-true (isDotBracket c) (inDotBracket s) h .1) i
 
 pub dots-known : (s : List ℕ) → inDotBracket s ≡ true → length s ≡ firstRefused s
 dots-known [] h = refl
 dots-known (c ∷ s) h =
-    let w = and-both (isDotBracket c) (inDotBracket s) h in
+    let w = both-true (isDotBracket c) (inDotBracket s) h in
     ap suc (dots-known s (w .1)) ∙ sym (dot-or-round c (w .0) .next (firstRefused s))
 
 dots-pass : (s : List ℕ) → inDotBracket s ≡ true → (n : ℕ) → firstOtherKind s (rounds n) ≡ length s
 dots-pass [] h n = refl
 dots-pass (c ∷ s) h n =
-    let w = and-both (isDotBracket c) (inDotBracket s) h in
+    let w = both-true (isDotBracket c) (inDotBracket s) h in
     let v = dot-or-round c (w .0) .pass n (firstOtherKind s) in
     v .1 ∙ ap suc (dots-pass s (w .1) (v .0))
 
