@@ -1,0 +1,11 @@
+pub mod Digits
+pub mod Forms
+pub mod Signs
+pub mod Readings
+pub mod Texts
+pub mod Writings
+pub mod Decimals
+pub mod Parts
+pub mod RoundTrip
+pub mod Grounds
+pub mod Examples
