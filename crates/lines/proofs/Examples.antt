@@ -8,11 +8,12 @@ use Rattle.answer.specs.declared.Ground.the-variants.{TextLength, NeverClosed, 
 use Rattle.answer.specs.declared.Place.the-variants.{ByteInQ, ByteInT, Seed, Nothing}
 use Rattle.answer.specs.declared.Answer.the-variants.{Accepted, Refused}
 use Rattle.write.specs.Decimal.{bytes, digits}
+use Rattle.decimal.specs.Score.{twoDigits, unsignedText, numberText}
 use Rattle.lines.specs.Lines.{scoreLine, member, members, chainLine, resultLines, placed, refusalLine}
 
 -- A chain of two seeds, and one without seeds.
-pub results-printed : resultLines 5 (true ∷ true ∷ replicate 62 false) ∷ resultLines 0 (replicate 64 false) ∷ [] ≡ bytes "score 5\nchain 1 2\n" ∷ bytes "score 0\nchain\n" ∷ []
-unfolding resultLines scoreLine chainLine members member digits
+pub results-printed : resultLines 5 (true ∷ true ∷ replicate 62 false) ∷ resultLines 0 (replicate 64 false) ∷ [] ≡ bytes "score 0.05\nchain 1 2\n" ∷ bytes "score 0.00\nchain\n" ∷ []
+unfolding resultLines scoreLine chainLine members member digits numberText unsignedText twoDigits
 results-printed = refl
 
 pub refusals-printed :

@@ -3,15 +3,17 @@ use mathlib.Core.Bool.{Bool, true, false}
 use mathlib.Core.List.{List, [], _∷_, _++_}
 use Prim.Native.Nat.{ℕ, suc, _-_}
 use lib.ListN.{length, replicate}
+use lib.IntN.{pos}
 use Rattle.answer.specs.Answer.{Said, accepted, refused}
 use Rattle.answer.specs.declared.Place.{Place}
 use Rattle.answer.specs.declared.Place.the-variants.{ByteInQ, ByteInT, Seed, Nothing}
 use Rattle.write.specs.Decimal.{bytes, decimal}
+use Rattle.decimal.specs.Score.{numberText}
 use Rattle.lines.specs.declared.Lines.{Lines}
 
--- "score" and the total.
+-- "score" and the total, which counts hundredths (document 02, a).
 unfoldable pub scoreLine : ℕ → List ℕ
-scoreLine total = bytes "score " ++ decimal total ++ bytes "\n"
+scoreLine total = bytes "score " ++ numberText (pos total) ++ bytes "\n"
 
 -- A number with one space before it, if the chain has it.
 unfoldable pub member : ℕ → Bool → List ℕ

@@ -2,6 +2,7 @@
 use answer::Answer;
 use answer::Place;
 use answer::number;
+use decimal::put_total;
 use write::put_decimal;
 use write::put_word;
 ghost use mathlib.Core.List.{_++_};
@@ -77,8 +78,9 @@ fn put_score_line(out: &mut [u8], at: usize, total: u64) -> usize
     requires { ⌜ Room (scoreLine total) at (now out) ⌝ }
     ensures { λ r. ⌜ Puts (scoreLine total) at (now (out .entry)) (now (out .exit)) r ⌝ }
 {
-    let next = put_numbered(out, at, b"score ", total);
-    put_word(out, next, b"\n")
+    let behind_word = put_word(out, at, b"score ");
+    let behind_total = put_total(out, behind_word, total);
+    put_word(out, behind_total, b"\n")
 }
 
 fn put_chain_line(out: &mut [u8], at: usize, chain: [bool; 64]) -> usize

@@ -7,6 +7,7 @@ use lib.Dec.{eqb}
 use lib.ListN.{replicate}
 use borrow.Author.Tests.{eqb-true}
 use Rattle.write.specs.Decimal.{bytes, digits}
+use Rattle.decimal.specs.Score.{twoDigits, unsignedText, numberText}
 use Rattle.tree.specs.Run.{Run}
 use Rattle.character.specs.Character.{meaningOf}
 use Rattle.tree.specs.Reading.{Spells, badLength, reading}
@@ -60,7 +61,7 @@ pub empty-printed :
     ∷ bytes "refused 5\n"
     ∷ bytes "refused 1 T 0\n"
     ∷ bytes "refused 4 Q 0\n"
-    ∷ bytes "score 0\nchain\n"
+    ∷ bytes "score 0.00\nchain\n"
     ∷ []
-unfolding linesOf outcomeOf readBytes ahead behind deckOpening dealOf dealAnswer bothRead reading badLength meaningOf deckAnswer deckReading badLayout refusalLine placed resultLines scoreLine chainLine members member digits seedCount zeroByte pairCount number16 seedRecords pairRecords walks settled allIn rowsBy flatten seedsAnswer keyOf best empty inMask tab
+unfolding linesOf outcomeOf readBytes ahead behind deckOpening dealOf dealAnswer bothRead reading badLength meaningOf deckAnswer deckReading badLayout refusalLine placed resultLines scoreLine chainLine members member numberText unsignedText twoDigits digits seedCount zeroByte pairCount number16 seedRecords pairRecords walks settled allIn rowsBy flatten seedsAnswer keyOf best empty inMask tab
 empty-printed = refl

@@ -1,8 +1,10 @@
 -- `lines::refusal` meets its contract: the array has room for every line.
 use native.Mathlib.Omega.{arith}
 use Rattle.answer.specs.Answer.{said}
+use Rattle.lines.specs.Lines.{linesRoom}
 use Rattle.lines.proofs.Lengths.{length-refusal}
-use Rattle.lines.proofs.Printed.{zeros-room, puts-printed}
+use Rattle.write.proofs.Zeros.{zeros-room}
+use Rattle.lines.proofs.Printed.{puts-printed}
 use borrow.Author.Needs.{needs}
 use Rattle.lines.proofs.refusal.Statement.{statement}
 use Rattle.lines.proofs.refusal.Tie as tie
@@ -11,7 +13,7 @@ slice-aggregate-put-refusal : tie.Need-slice-aggregate-put-refusal
 slice-aggregate-put-refusal c = search needs
 
 put-refusal-requires : tie.Need-put-refusal-requires
-put-refusal-requires c κs = zeros-room _ (omega (arith, length-refusal (said (c .before .args .answer))))
+put-refusal-requires c κs = zeros-room linesRoom _ (omega (arith, length-refusal (said (c .before .args .answer))))
 
 returns : tie.Need-returns
 returns c = let a = c .before .before .before .args .answer in puts-printed (omega (arith, length-refusal (said a))) (c .before .put-refusal .ensures)
