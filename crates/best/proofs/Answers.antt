@@ -5,27 +5,27 @@ use mathlib.Core.List.{List}
 use Prim.Native.Nat.{ℕ, _≤_, _<_}
 use native.Mathlib.Omega.{arith}
 use lib.Dec.{ltb}
-use lib.IntN.{pos, negsuc}
+use lib.IntN.{pos}
 use lib.ListN.{length, replicate}
-use lib.Signed.{_≤ℤ_, leZ, leZ-yes}
+use lib.Signed.{_≤ℤ_}
 use Rattle.answer.specs.declared.Answer.the-variants.{Accepted}
 use Rattle.tree.specs.Reading.{leavesOf}
 use Rattle.tree.specs.declared.Tree.{Tree}
 use Rattle.tree.proofs.Trees.{tree-nested}
 use Rattle.seed.specs.Seed.{Pattern}
 use Rattle.seed.specs.Tab.{tab}
-use Rattle.table.specs.Rows.{Row, inRange, rowIn}
+use Rattle.table.specs.Rows.{Row, rowIn}
 use Rattle.table.specs.Table.{rowAt, rowsOf, Kept}
 use Rattle.table.specs.declared.Table.{Table}
 use Rattle.table.proofs.Tables.{rows-length, row-there}
 use Rattle.optimum.specs.Key.{inMask}
 use Rattle.optimum.specs.inner.Table.{stored}
 use Rattle.optimum.specs.inner.Table as optimum
-use Rattle.optimum.proofs.Booleans.{and-r}
 use Rattle.standing.specs.Standing.{Stood}
 use Rattle.best.specs.Best.{keyOf, scratchNeeded, tooShort, bestOf, scratchAfter, Answered}
 use Rattle.best.specs.inner.Scratch.{scoreBy, itemsOf, Posed}
 use Rattle.standing.specs.declared.Standing.{Standing}
+use Rattle.best.proofs.BestChain.{range-most}
 use Rattle.best.proofs.Listing.{posed, key-is}
 
 module _ (q t : Tree) (table : Table) where
@@ -54,10 +54,7 @@ module _ (q t : Tree) (table : Table) where
     score-row i b = sym (ap (λ (r : Row). r .score) (row-there table i (omega (arith, rows-length table))))
 
     most : (i : ℕ) → i < length (rowsOf table) → scoreBy (table .scores) i ≤ℤ pos 1000000
-    unfolding inRange
-    most i b =
-        let z = rowIn (rowsOf table) i .score in
-        rw (score-row i b) (leZ-yes (and-r (leZ (negsuc 999999) z) (leZ z (pos 1000000)) (rw (h .each i b .ranged) tt)))
+    most i b = rw (score-row i b) (range-most (rowIn (rowsOf table) i .score) (h .each i b .ranged))
 
     pub table-posed : Posed s (table .scores)
     table-posed = posed (tree-nested q (h .is-q)) (tree-nested t (h .is-t)) (rowsOf table) few seeds s o (table .scores) most

@@ -1,5 +1,5 @@
 -- Every key that the table holds, or adds on the way, is a chain's, so that its total is at most 64,000,000 and its mask below 2 ^ 64.
-use mathlib.Core.Path.{_≡_, sym, ap, ap₂, _∙_}
+use mathlib.Core.Path.{_≡_, sym, ap, ap₂, subst, _∙_}
 use mathlib.Core.Bool.{Bool, true, _&&_}
 use Prim.Native.Nat.{ℕ, zero, suc, _+_, _*_, _^_, _≤_, _<_}
 use native.Mathlib.Nat.{pow-le-pow-right}
@@ -7,7 +7,8 @@ use native.Mathlib.Omega.{arith}
 use lib.IntN.{ℤ, pos}
 use lib.Dec.{T, leb→le}
 use lib.Signed.{_≤ℤ_}
-use Rattle.optimum.specs.Key.{Key, empty, _⊕_, better, maskOf}
+use Rattle.optimum.specs.Chain.{totalOf}
+use Rattle.optimum.specs.Key.{Key, empty, _⊕_, better, maskOf, seedKey}
 use Rattle.optimum.specs.inner.Table.{Items, itemsChainable, bestAmong, Laws, Limited, withUnder, maxBelow, KeysUnder, KeyRow, stored, Small}
 use Rattle.optimum.proofs.Booleans.{Is, yes, no, is, and-l, or-r}
 use Rattle.optimum.proofs.WholeNumbers.{gap-le, le-trans, le-add}
@@ -16,7 +17,7 @@ use Rattle.optimum.proofs.Chains.{value, value-in, value-out, Attained,
 use Rattle.optimum.proofs.Split.{Down, under-and-left}
 use Rattle.optimum.proofs.Recurrence.{left-best}
 use Rattle.optimum.proofs.Masks.{mask-below}
-use Rattle.optimum.proofs.Numbers.{named, value-mask, fewer, value-named}
+use Rattle.optimum.proofs.Numbers.{named, value-total, value-mask, fewer, value-named}
 
 -- ---- totals
 
@@ -31,6 +32,9 @@ value-total-most w most f (suc n) h = go (is (f n)) (value-total-most w most f n
     go : Is (f n) → value w f n .total ≤ℤ pos (n * most) → value w f (suc n) .total ≤ℤ pos (suc n * most)
     go (yes t) lower = rw (sum, value-in w f n t) (le-add (w n .total) (pos most) (value w f n .total) (pos (n * most)) (h n (omega arith)) lower)
     go (no t) lower = rw (sum, value-out w f n t) (le-trans (value w f n .total) (pos (n * most)) (pos (most + n * most)) lower (gap-le (pos (n * most)) (pos (most + n * most)) most (ap pos (omega arith))))
+
+pub total-most : (score : ℕ → ℤ) (most : ℕ) (f : ℕ → Bool) (n : ℕ) → ((k : ℕ) → k < n → score k ≤ℤ pos most) → totalOf score f n ≤ℤ pos (n * most)
+total-most score most f n h = subst (λ (t : ℤ). t ≤ℤ pos (n * most)) (value-total score f n) (value-total-most (seedKey score) most f n h)
 
 -- ---- the keys of a table
 

@@ -8,6 +8,7 @@ use native.Mathlib.Omega.{arith}
 use lib.ListN.{length, take, drop, length-append}
 use lib.Seq.{take-at}
 use lib.Dec.{ltb}
+use lib.IntN.{pos}
 use borrow.Author.Tests.{lt-ltb, le-ltb}
 use Rattle.answer.specs.Answer.{said}
 use Rattle.answer.specs.declared.Answer.{Answer}
@@ -17,6 +18,8 @@ use Rattle.write.specs.Wrote.{withBytes}
 use Rattle.write.proofs.Puts.{puts-as, puts-output, puts-place}
 use Rattle.write.proofs.Sets.{sets-first}
 use Rattle.seed.proofs.Tabs.{length-tab}
+use Rattle.decimal.specs.Score.{beyond}
+use Rattle.decimal.proofs.Signs.{total-within}
 use Rattle.best.specs.Best.{scratchNeeded}
 use Rattle.best.specs.declared.Best.{Best}
 use Rattle.chain.specs.State.{State}
@@ -24,7 +27,7 @@ use Rattle.chain.specs.View.{view}
 use Rattle.chain.specs.Opening.{deckOpening, Opens}
 use Rattle.chain.specs.Looking.{bestIn, Chains}
 use Rattle.chain.specs.declared.Session.{Session}
-use Rattle.chain.proofs.Looks.{chosen, chain-passes}
+use Rattle.chain.proofs.Looks.{best-most, chosen, chain-passes}
 use Rattle.lines.specs.Lines.{scoreLine, resultLines, refusalLine, linesRoom, printed}
 use Rattle.lines.specs.declared.Lines.{Lines}
 use Rattle.lines.proofs.Lengths.{length-refusal, length-result}
@@ -42,6 +45,10 @@ opens-input input q t d parts w is-q is-t is-d {a} {s} o =
     subst (λ (x : List ℕ). Opens (deckOpening (textQ input) (textT input) x) a s) (is-d ∙ w .in-deck .holds)
     (subst (λ (x : List ℕ). Opens (deckOpening (textQ input) x d) a s) (is-t ∙ w .in-t .holds)
     (subst (λ (x : List ℕ). Opens (deckOpening x t d) a s) (is-q ∙ w .in-q .holds) o))
+
+-- The total of an accepted input is one that the writer of texts takes, so that its line has the text that is written for it.
+pub printed-total : (input : List ℕ) {a : Answer} {s : Session} → Opens (outcomeOf input) a s → beyond (pos (bestIn (outcomeOf input .state) .total)) ≡ false
+printed-total input {a} {s} o = total-within (bestIn (outcomeOf input .state) .total) (omega (arith, best-most s (o .sound), ap (λ (x : State). bestIn x .total) (o .leaves)))
 
 -- A chain has a flag for each of 64 numbers, so that the room holds its lines, as it does those of every report.
 chain-short : (s : State) → length (chainLines s) ≤ linesRoom
