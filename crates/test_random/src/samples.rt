@@ -35,12 +35,12 @@ pub fn with_letter(s: Sample, byte: u8) -> Sample {
     next
 }
 
-fn letter_at(s: Sample, k: usize) -> u8 {
+pub fn letter_at(s: Sample, k: usize) -> u8 {
     if k < 12 { s.bytes[k] } else { 0 }
 }
 
 // The text with another byte at a place.
-fn with_letter_at(s: Sample, k: usize, byte: u8) -> Sample {
+pub fn with_letter_at(s: Sample, k: usize, byte: u8) -> Sample {
     let mut next = s;
     if k < 12 {
         next.bytes[k] = byte;

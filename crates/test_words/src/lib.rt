@@ -2,6 +2,7 @@
 pub mod answers;
 pub mod line;
 pub mod plain;
+pub mod signed;
 pub mod spelled;
 
 use plain::part;

@@ -47,11 +47,12 @@ pub fn sign(s: &[u8], at: usize) -> usize {
     find(s, at, b'=', b'\n')
 }
 
-fn tenfold(n: usize, digit: u8) -> usize {
+// A number with a digit more, up to 19 digits: a longer one stays where it is.
+pub fn tenfold(n: usize, digit: u8) -> usize {
     if digit < 48 {
         return n;
     }
-    if n < 100000000 {
+    if n < 1000000000000000000 {
         n * 10 + wide(digit - 48)
     } else {
         n
