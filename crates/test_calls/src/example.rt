@@ -1,4 +1,5 @@
 // The README's example of a session: it quotes what stands between the two marks word for word.
+use super::scores;
 use super::views::with_areas;
 use super::views::with_best;
 use super::views::with_deck;
@@ -28,16 +29,19 @@ pub struct Answers {
     pub deck: [u8; 4484],
     pub without: Best,
     pub best: Best,
+    pub spelled: Written,
+    pub text: [u8; 10],
 }
 
-// A session from its opening to the best chain.
+// A session from its opening to the best chain, and a score as a text.
 pub fn example() -> Answers {
     let mut areas = [0u8; 1024];
     let mut deck = [0u8; 4484];
     let mut scratch = [0u64; SCRATCH];
+    let mut text = [0u8; 10];
     let opened = chain::open(b"(.(.)).", b"(.)(.)");
     let session = opened.session;
-    // A seed is two lists, the nodes of Q and those of T, and a score.
+    // A seed is two lists, the nodes of Q and those of T, and a score in hundredths.
     let first = session.added(&[2], &[1], 3);
     let session = first.session;
     let second = session.added(&[4], &[2], 2);
@@ -52,12 +56,15 @@ pub fn example() -> Answers {
     let row = session.row(third.number);
     let listed = session.areas(third.number, &mut areas);
     let written = session.write_deck(&mut deck);
-    // Seed 1 gets another score, and seed 2 is left out for a while.
-    let session = session.rescored(first.number, 7).session;
+    // Seed 1 gets another score, read from a text, and seed 2 is left out for a while.
+    let read = decimal::read(b"0.07");
+    let session = session.rescored(first.number, read.score).session;
     let session = session.withdrawn(second.number).session;
     let without = session.best_chain(&mut scratch);
     let session = session.brought_back(second.number).session;
     let best = session.best_chain(&mut scratch);
+    // A score as a text: ten bytes hold every one, and every total.
+    let spelled = decimal::write(-50, &mut text);
     Answers {
         refusal,
         row,
@@ -67,6 +74,8 @@ pub fn example() -> Answers {
         deck,
         without,
         best,
+        spelled,
+        text,
     }
 }
 // README: end
@@ -86,6 +95,11 @@ fn with_written(t: Text, written: Written, deck: &[u8; 4484]) -> Text {
     with_deck(t, answer, part(deck, 0, written.length))
 }
 
+fn with_spelled(t: Text, spelled: Written, text: &[u8; 10]) -> Text {
+    let answer = spelled.answer;
+    scores::with_written(t, answer, spelled.length, part(text, 0, spelled.length))
+}
+
 // The answers in words.
 fn told(e: Answers) -> Text {
     let refusal = e.refusal;
@@ -96,11 +110,14 @@ fn told(e: Answers) -> Text {
     let deck = e.deck;
     let without = e.without;
     let best = e.best;
+    let spelled = e.spelled;
+    let text = e.text;
     let refused = comma(with_answer(blank(), refusal));
     let shown = comma(with_shown(refused, row));
     let boxes = comma(with_listed(shown, listed, &areas));
     let dealt = comma(with_written(boxes, written, &deck));
-    with_best(comma(with_best(dealt, without)), best)
+    let chosen = comma(with_best(comma(with_best(dealt, without)), best));
+    with_spelled(chosen, spelled, &text)
 }
 
 // example

@@ -4,4 +4,5 @@ pub mod example;
 pub mod observe;
 pub mod redeal;
 pub mod reports;
+pub mod scores;
 pub mod views;

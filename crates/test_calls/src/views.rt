@@ -167,7 +167,7 @@ pub fn deck(session: Session, s: &[u8], at: usize) -> Text
 }
 
 // A space and a score.
-fn with_score(t: Text, score: i32) -> Text {
+pub fn with_score(t: Text, score: i32) -> Text {
     let spaced = with_byte(t, b' ');
     let wide = score as i64;
     if wide < 0 {

@@ -1,4 +1,4 @@
-// The groups of random cases, and all texts of a length.
+// The groups of random cases, all texts of a length, and all scores.
 use test_nudges::moves::print_moves;
 use test_nudges::nudges;
 use test_random::stretches::stretches;
@@ -9,6 +9,9 @@ use test_random::tally::with_counts;
 use test_random::texts::all_bytes;
 use test_random::texts::all_two_bytes;
 use test_random::texts::texts;
+use test_scores::all::all_scores;
+use test_scores::numbers::score_numbers;
+use test_scores::texts::score_texts;
 use test_sessions::sessions;
 use test_words::Text;
 use test_words::blank;
@@ -51,6 +54,18 @@ fn random_nudges(cases: usize, seed: usize) -> Text {
     wrong(count)
 }
 
+fn random_scores(cases: usize, seed: usize) -> Text {
+    let c = score_texts(cases, seed as u64);
+    print_count(b"random scores: ", c);
+    wrong(c)
+}
+
+fn random_numbers(cases: usize, seed: usize) -> Text {
+    let c = score_numbers(cases, seed as u64);
+    print_count(b"random numbers: ", c);
+    wrong(c)
+}
+
 // random GROUP CASES SEED
 pub fn random(s: &[u8], at: usize) -> Text {
     let cases = next(s, at);
@@ -64,11 +79,20 @@ pub fn random(s: &[u8], at: usize) -> Text {
     if check::same(word(s, at), b"nudges") {
         return random_nudges(number(s, cases), number(s, seed));
     }
+    if check::same(word(s, at), b"scores") {
+        return random_scores(number(s, cases), number(s, seed));
+    }
+    if check::same(word(s, at), b"numbers") {
+        return random_numbers(number(s, cases), number(s, seed));
+    }
     random_sessions(number(s, cases), number(s, seed))
 }
 
-// every LENGTH: all texts of one byte, or of two.
+// every LENGTH: all texts of one byte, or of two. every score: all scores, written and read back.
 pub fn every(s: &[u8], at: usize) -> Text {
+    if check::same(word(s, at), b"score") {
+        return with_counts(blank(), all_scores());
+    }
     if number(s, at) == 1 {
         return with_counts(blank(), all_bytes());
     }

@@ -11,6 +11,6 @@ fn run(input: &mut [u8]) {
 }
 
 fn main() {
-    let mut input = io::large_buffer();
+    let mut input = [0u8; 131072];
     run(&mut input);
 }

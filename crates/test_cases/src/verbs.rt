@@ -13,6 +13,7 @@ use test_calls::changes::rescore_lent;
 use test_calls::example;
 use test_calls::reports::exported;
 use test_calls::reports::report;
+use test_calls::scores;
 use test_calls::views;
 use test_words::Text;
 use test_words::blank;
@@ -20,6 +21,21 @@ use test_words::line::next;
 use test_words::line::word;
 use test_words::with_bytes;
 ghost use Rattle.chain.specs.View.{Sound};
+
+// A call on a score text or a number.
+fn on_score(s: &[u8], at: usize) -> Text {
+    let args = next(s, at);
+    if check::same(word(s, at), b"score") {
+        return scores::score(s, args);
+    }
+    if check::same(word(s, at), b"score-hex") {
+        return scores::score_hex(s, args);
+    }
+    if check::same(word(s, at), b"text") {
+        return scores::text(s, args);
+    }
+    with_bytes(blank(), b"no such call")
+}
 
 // A call that takes no session.
 fn without_session(s: &[u8], at: usize) -> Text {
@@ -45,7 +61,7 @@ fn without_session(s: &[u8], at: usize) -> Text {
     if check::same(word(s, at), b"example") {
         return example::run();
     }
-    with_bytes(blank(), b"no such call")
+    on_score(s, at)
 }
 
 // A call that changes no session. The session's two texts stand at a place of their own.
