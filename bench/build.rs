@@ -1,4 +1,4 @@
-//! Links the library's archive if it has been built; without it the program only checks itself.
+//! Links the library's archives if they have been built; without them the program only checks itself.
 
 use std::env;
 use std::path::{Path, PathBuf};
@@ -10,15 +10,21 @@ fn archive_directory() -> PathBuf {
     }
 }
 
+/// The archive of one crate, and the condition under which the program calls it.
+fn link(directory: &Path, name: &str, condition: &str) {
+    println!("cargo:rustc-check-cfg=cfg({condition})");
+    if directory.join(format!("lib{name}.a")).is_file() {
+        println!("cargo:rustc-cfg={condition}");
+        println!("cargo:rustc-link-search=native={}", directory.display());
+        println!("cargo:rustc-link-lib=static={name}");
+    }
+}
+
 fn main() {
     let directory = archive_directory();
-    let archive = directory.join("libreport.a");
-    println!("cargo:rustc-check-cfg=cfg(library)");
     println!("cargo:rerun-if-env-changed=GURANDYO_ARCHIVE_DIR");
-    println!("cargo:rerun-if-changed={}", archive.display());
-    if archive.is_file() {
-        println!("cargo:rustc-cfg=library");
-        println!("cargo:rustc-link-search=native={}", directory.display());
-        println!("cargo:rustc-link-lib=static=report");
-    }
+    // The directory and not the archives: one that is not there would have all built anew each time.
+    println!("cargo:rerun-if-changed={}", directory.display());
+    link(&directory, "report", "library");
+    link(&directory, "test_scores", "score_library");
 }

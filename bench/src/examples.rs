@@ -20,7 +20,7 @@ pub type Seed<'a> = (i32, &'a [(u8, u8)]);
 /// An input with its lines.
 pub type Row = (Vec<u8>, &'static str);
 
-const NOTHING: &str = "score 0\nchain\n";
+const NOTHING: &str = "score 0.00\nchain\n";
 
 /// Q, T and the seeds in plain form.
 pub fn input(q: &[u8], t: &[u8], seeds: &[Seed]) -> Vec<u8> {
@@ -104,6 +104,7 @@ fn text(q: &[u8]) -> Vec<u8> {
 pub fn all() -> Vec<Row> {
     [
         of_a_and_b(),
+        in_hundredths(),
         on_one_text(),
         how_open_questions_are_read(),
         without_structure(),
@@ -122,23 +123,45 @@ fn of_a_and_b() -> Vec<Row> {
         (one(1, &[(0, 0), (2, 1)]), "refused 17 seed 1\n"),
         (one(1, &[(0, 0), (4, 2)]), "refused 18 seed 1\n"),
         (one(1, &[(1, 0), (5, 4)]), "refused 19 seed 1\n"),
-        (one(1, &[(1, 0), (3, 1)]), "score 1\nchain 1\n"),
-        (one(1, &[(3, 1), (5, 4)]), "score 1\nchain 1\n"),
+        (one(1, &[(1, 0), (3, 1)]), "score 0.01\nchain 1\n"),
+        (one(1, &[(3, 1), (5, 4)]), "score 0.01\nchain 1\n"),
         (on_a_and_b(&[]), NOTHING),
         (one(0, &[(0, 0)]), NOTHING),
         (one(-1, &[(0, 0)]), NOTHING),
         (on_a_and_b(&FIVE), "refused 25 seed 2\n"),
-        (four(3), "score 4\nchain 1 2\n"),
-        (four(4), "score 5\nchain 2 3\n"),
+        (four(3), "score 0.04\nchain 1 2\n"),
+        (four(4), "score 0.05\nchain 2 3\n"),
         // Seed 2 withdrawn: the deck goes without it, so 3 is 2 here.
         (
             on_a_and_b(&[FIVE[0], (4, FIVE[3].1), FIVE[4]]),
-            "score 4\nchain 2\n",
+            "score 0.04\nchain 2\n",
         ),
         (two_seeds_unlike(), "refused 25 seed 2\n"),
-        (two_seeds(), "score 5\nchain 1 2\n"),
-        (one(1_000_000, &[(0, 0)]), "score 1000000\nchain 1\n"),
+        (two_seeds(), "score 0.05\nchain 1 2\n"),
+        (one(1_000_000, &[(0, 0)]), "score 10000.00\nchain 1\n"),
         (one(1_000_001, &[(0, 0)]), "refused 11 seed 1\n"),
+    ]
+}
+
+/// Document 02, a: totals around each new digit, and the greatest one.
+fn in_hundredths() -> Vec<Row> {
+    let total = |score| one(score, &[(0, 0)]);
+    let dots = [b'.'; 64];
+    let pairs: Vec<[(u8, u8); 1]> = (0..64).map(|dot| [(dot, dot)]).collect();
+    let greatest: Vec<Seed> = pairs.iter().map(|pair| (1_000_000, &pair[..])).collect();
+    vec![
+        (total(9), "score 0.09\nchain 1\n"),
+        (total(10), "score 0.10\nchain 1\n"),
+        (total(99), "score 0.99\nchain 1\n"),
+        (total(100), "score 1.00\nchain 1\n"),
+        (total(432), "score 4.32\nchain 1\n"),
+        (total(999_999), "score 9999.99\nchain 1\n"),
+        (
+            input(&dots, &dots, &greatest),
+            "score 640000.00\nchain 1 2 3 4 5 6 7 8 9 10 11 12 13 14 15 16 17 18 19 20 21 22 \
+            23 24 25 26 27 28 29 30 31 32 33 34 35 36 37 38 39 40 41 42 43 44 45 46 47 48 49 \
+            50 51 52 53 54 55 56 57 58 59 60 61 62 63 64\n",
+        ),
     ]
 }
 
@@ -172,17 +195,20 @@ fn without_structure() -> Vec<Row> {
         (b"(".to_vec(), "refused 4 Q 0\n"),
         (input(b"", &[b'.'; 256], &[]), "refused 1 T 0\n"),
         (input(b"", b"", &[]), NOTHING),
-        (on_empty_texts(), "score 5\nchain 1\n"),
+        (on_empty_texts(), "score 0.05\nchain 1\n"),
         // Both seeds take the only node.
         (
             input(b"", b"", &[(5, &[(0, 0)]), (7, &[(0, 0)])]),
-            "score 7\nchain 2\n",
+            "score 0.07\nchain 2\n",
         ),
         (
             input(b"", b".", &[(1, &[(0, 1)]), (1, &[(0, 1)])]),
-            "score 1\nchain 1\n",
+            "score 0.01\nchain 1\n",
         ),
-        (input(b"", b"(.)", &[(3, &[(0, 2)])]), "score 3\nchain 1\n"),
+        (
+            input(b"", b"(.)", &[(3, &[(0, 2)])]),
+            "score 0.03\nchain 1\n",
+        ),
         (input(b"", b".", &[(1, &[(1, 0)])]), "refused 15 seed 1\n"),
     ]
 }
@@ -192,7 +218,7 @@ fn in_wuss() -> Vec<Row> {
     vec![
         (text(b"<<<___>>>,,(((...)))::~~--"), NOTHING),
         (text(b"<([{.,:_-~}])>"), NOTHING),
-        (two_seeds_in_wuss(), "score 5\nchain 1 2\n"),
+        (two_seeds_in_wuss(), "score 0.05\nchain 1 2\n"),
         (text(b"(<)"), "refused 4 Q 0\n"),
         (text(b"<)"), "refused 24 Q 1\n"),
         (text(b"(]"), "refused 24 Q 1\n"),
@@ -219,8 +245,8 @@ fn judged_before_the_rest() -> Vec<Row> {
 /// The inputs of the directory of examples that stand there in dots and round brackets and in WUSS.
 fn from_files() -> Vec<Row> {
     let (trna, ribosomal) = (
-        "score 254\nchain 1 2 3 4\n",
-        "score 451\nchain 1 2 3 4 6 7 8 9 11 15\n",
+        "score 2.54\nchain 1 2 3 4\n",
+        "score 4.51\nchain 1 2 3 4 6 7 8 9 11 15\n",
     );
     let [trna_in_wuss, ribosomal_in_wuss] = files_in_wuss();
     vec![

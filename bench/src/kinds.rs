@@ -15,7 +15,7 @@ pub fn examples() -> Vec<Row> {
 
 /// Every kind of node against every kind; the kind of bracket plays no part.
 fn like_maps_to_like() -> Vec<Row> {
-    let (like, unlike) = ("score 1\nchain 1\n", "refused 25 seed 1\n");
+    let (like, unlike) = ("score 0.01\nchain 1\n", "refused 25 seed 1\n");
     let joined = |q: &[u8], t: &[u8], pairs: &[(u8, u8)]| input(q, t, &[(1, pairs)]);
     vec![
         (joined(b".", b"~", &[(0, 0)]), like),

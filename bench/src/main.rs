@@ -9,6 +9,11 @@ mod library;
 mod quick;
 mod random;
 mod reference;
+mod score_check;
+mod score_library;
+mod score_texts;
+mod score_times;
+mod scores;
 mod texts;
 mod timing;
 
@@ -249,7 +254,7 @@ fn number(argument: Option<String>, default: u64) -> u64 {
         Some(Ok(number)) => number,
         Some(Err(_)) => {
             eprintln!(
-                "usage: gurandyo-bench [how many random inputs] [where the random numbers start], or lists"
+                "usage: gurandyo-bench [scores] [how many random inputs] [where the random numbers start], or lists"
             );
             exit(2)
         }
@@ -257,12 +262,16 @@ fn number(argument: Option<String>, default: u64) -> u64 {
 }
 
 fn main() {
+    let mut arguments = std::env::args().skip(1).peekable();
+    if arguments.next_if(|word| word == "scores").is_some() {
+        let count = number(arguments.next(), 4_000_000) as usize;
+        return score_check::run(count, number(arguments.next(), 1));
+    }
     let mut checker = Checker::new();
     match checker.library {
         Some(_) => println!("comparing the library with the reference"),
         None => println!("the library is missing: the reference checks only itself"),
     }
-    let mut arguments = std::env::args().skip(1).peekable();
     if arguments.next_if(|word| word == "lists").is_some() {
         return check_lists(&mut checker);
     }

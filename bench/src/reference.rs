@@ -577,7 +577,9 @@ fn wins(chain: Chain, other: Chain) -> bool {
 
 pub fn print_chain(chain: Chain) -> Vec<u8> {
     let mut lines = Vec::with_capacity(256);
-    write!(lines, "score {}\nchain", chain.total).expect("memory takes all");
+    // In hundredths (document 02, a); the empty chain is one too, so that no best total is below 0.
+    let (whole, hundredths) = (chain.total / 100, chain.total % 100);
+    write!(lines, "score {whole}.{hundredths:02}\nchain").expect("memory takes all");
     for seed in members(chain.mask) {
         write!(lines, " {}", seed + 1).expect("memory takes all");
     }

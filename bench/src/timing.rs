@@ -13,7 +13,7 @@ const ROUNDS: usize = 101;
 const STINT_NS: f64 = 500_000.0;
 
 /// One who answers an input.
-type Contestant<'a> = &'a mut dyn FnMut(&[u8]);
+pub type Contestant<'a> = &'a mut dyn FnMut(&[u8]);
 
 /// Nanoseconds for one input, on average over the inputs, `turns` times each.
 fn stint(inputs: &[Vec<u8>], turns: usize, report: Contestant) -> f64 {
@@ -38,7 +38,7 @@ fn median(mut times: Vec<f64>) -> f64 {
 
 /// The median for each contestant and size; a round has a stint of each contestant at each size,
 /// so that a disturbance meets all of them.
-fn contest(sizes: &[Vec<Vec<u8>>], contestants: &mut [Contestant]) -> Vec<Vec<f64>> {
+pub fn contest(sizes: &[Vec<Vec<u8>>], contestants: &mut [Contestant]) -> Vec<Vec<f64>> {
     let turns: Vec<Vec<usize>> = contestants
         .iter_mut()
         .map(|report| {
