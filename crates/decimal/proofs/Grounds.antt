@@ -1,6 +1,6 @@
 -- What reading and writing answer is what their grounds say, and nothing else.
 use mathlib.Core.Path.{_≡_, refl, sym, ap, subst, _∙_}
-use mathlib.Core.Bool.{Bool, true, false, cond, not, _&&_, _||_, true≢false, false≢true}
+use mathlib.Core.Bool.{Bool, true, false, cond, not, _&&_, true≢false, false≢true}
 use mathlib.Core.Logic.{_⊎_, inl, inr}
 use mathlib.Core.List.{List}
 use Prim.Native.Nat.{ℕ, _<_}
@@ -12,8 +12,7 @@ use borrow.Author.Tests.{lt-leb, leb-false, not-true}
 use Rattle.answer.specs.Answer.{given}
 use Rattle.answer.specs.Grounds.{Decides}
 use Rattle.answer.specs.Tells.{Tells}
-use Rattle.answer.specs.declared.Answer.{Answer}
-use Rattle.answer.specs.declared.Answer.the-variants.{Accepted, Refused}
+use Rattle.answer.specs.declared.Answer.the-variants.{Accepted}
 use Rattle.answer.specs.declared.Ground.the-variants.{ScoreRange, OutputShort, ScoreText}
 use Rattle.answer.specs.declared.Place.the-variants.{Nothing}
 use Rattle.answer.proofs.Grounds.{ground, guard}
@@ -23,7 +22,6 @@ use Rattle.write.specs.declared.Written.{Written}
 use Rattle.table.specs.Rows.{inRange}
 use Rattle.decimal.specs.Score.{scoreForm, numberIn, isScore, noScore, scoreRead, numberText, beyond, notWritten, WritesNumber}
 use Rattle.decimal.specs.Grounds.{ReadSays, WriteSays}
-use Rattle.decimal.specs.declared.ScoreRead.{ScoreRead}
 
 tells-neither : (a b : Bool) → Tells (not (a && b)) ((a ≡ false) ⊎ (b ≡ false))
 tells-neither true true = (λ e. absurd (false≢true e), λ h. elim h [ inl e ↦ absurd (true≢false e) | inr e ↦ absurd (true≢false e) ])

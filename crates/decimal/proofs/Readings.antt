@@ -1,5 +1,5 @@
 -- What reading answers, test by test.
-use mathlib.Core.Path.{_≡_, refl}
+use mathlib.Core.Path.{_≡_}
 use mathlib.Core.Bool.{true, false, _&&_}
 use mathlib.Core.List.{List}
 use Prim.Native.Nat.{ℕ}
@@ -7,7 +7,6 @@ use lib.Dec.{eqb}
 use Rattle.answer.specs.declared.Answer.the-variants.{Accepted}
 use Rattle.table.specs.Rows.{inRange}
 use Rattle.decimal.specs.Score.{minusFirst, behindMinus, unsignedForm, unsignedNumber, scoreForm, numberIn, isScore, noScore, scoreRead}
-use Rattle.decimal.specs.declared.ScoreRead.{ScoreRead}
 
 module _ (s : List ℕ) where
   pub score-other : unsignedForm (behindMinus s) ≡ false → noScore ≡ scoreRead s

@@ -1,7 +1,6 @@
 -- `decimal::put_total` meets its contract.
-use mathlib.Core.Path.{sym, _∙_}
+use mathlib.Core.Path.{sym}
 use mathlib.Core.Bool.{false}
-use lib.IntN.{pos}
 use lib.Seq.{length-take-le}
 use borrow.Author.Needs.{needs}
 use Rattle.write.proofs.Puts.{puts-as}

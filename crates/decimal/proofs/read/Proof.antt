@@ -12,7 +12,6 @@ use borrow.Author.Needs.{needs}
 use Rattle.answer.specs.declared.Answer.the-variants.{Accepted}
 use Rattle.table.specs.Rows.{inRange}
 use Rattle.decimal.specs.Score.{minusFirst, behindMinus, unsignedForm, unsignedNumber, signedNumber, numberIn}
-use Rattle.decimal.specs.declared.ScoreRead.{ScoreRead}
 use Rattle.decimal.proofs.Readings.{score-other, score-minus, score-out, score-in}
 use Rattle.decimal.proofs.Signs.{signed-fits}
 use Rattle.decimal.proofs.read.Statement.{statement}

@@ -1,6 +1,5 @@
 -- `form::behind_minus` meets its contract: a text with a minus has a byte.
 use mathlib.Core.Path.{sym, _∙_}
-use native.Mathlib.Omega.{arith}
 use borrow.Author.Needs.{needs}
 use Rattle.decimal.proofs.Forms.{minus-long, behind-some, behind-none}
 use Rattle.decimal.proofs.form.behind_minus.Statement.{statement}

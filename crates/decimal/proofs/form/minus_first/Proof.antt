@@ -1,5 +1,4 @@
 -- `form::minus_first` meets its contract.
-use lib.ListN.{length}
 use borrow.Author.Needs.{needs}
 use Rattle.decimal.proofs.Forms.{minus-none, minus-some}
 use Rattle.decimal.proofs.form.minus_first.Statement.{statement}

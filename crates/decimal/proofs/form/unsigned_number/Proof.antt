@@ -4,7 +4,7 @@ use Prim.Native.Nat.{ℕ, _+_, _*_}
 use native.Mathlib.Omega.{arith}
 use borrow.Author.Needs.{needs}
 use Rattle.decimal.specs.Score.{digitsNumber, unsignedNumber}
-use Rattle.decimal.proofs.Forms.{form-parts, whole-length, hundredths-length}
+use Rattle.decimal.proofs.Forms.{form-parts, hundredths-length}
 use Rattle.decimal.proofs.form.unsigned_number.Statement.{statement}
 use Rattle.decimal.proofs.form.unsigned_number.Tie as tie
 
