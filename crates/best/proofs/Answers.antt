@@ -18,6 +18,7 @@ use Rattle.table.specs.Rows.{Row, rowIn}
 use Rattle.table.specs.Table.{rowAt, rowsOf, Kept}
 use Rattle.table.specs.declared.Table.{Table}
 use Rattle.table.proofs.Tables.{rows-length, row-there}
+use Rattle.table.proofs.Ranges.{range-most}
 use Rattle.optimum.specs.Key.{inMask}
 use Rattle.optimum.specs.inner.Table.{stored}
 use Rattle.optimum.specs.inner.Table as optimum
@@ -25,7 +26,6 @@ use Rattle.standing.specs.Standing.{Stood}
 use Rattle.best.specs.Best.{keyOf, scratchNeeded, tooShort, bestOf, scratchAfter, Answered}
 use Rattle.best.specs.inner.Scratch.{scoreBy, itemsOf, Posed}
 use Rattle.standing.specs.declared.Standing.{Standing}
-use Rattle.best.proofs.BestChain.{range-most}
 use Rattle.best.proofs.Listing.{posed, key-is}
 
 module _ (q t : Tree) (table : Table) where

@@ -1,6 +1,6 @@
 -- The key that is found by trying all chains is that of the best chain in document 01's words, and the answer names that chain.
 use mathlib.Core.Path.{_≡_, refl, sym, _∙_, fun-ext}
-use mathlib.Core.Bool.{Bool, true, false}
+use mathlib.Core.Bool.{Bool, false}
 use mathlib.Core.List.{List}
 use mathlib.Core.Logic.{inl, inr}
 use Prim.Native.Nat.{ℕ, zero, suc, _*_, _≤_, _<_}
@@ -9,7 +9,7 @@ use borrow.Author.Tests.{le-ltb}
 use lib.Dec.{T, not-T, leb→le}
 use lib.IntN.{ℤ, pos, negsuc, natAbs}
 use lib.ListN.{length, getD, List·getD-eq-default}
-use lib.Signed.{_≤ℤ_, leZ, leZ-yes}
+use lib.Signed.{_≤ℤ_}
 use Rattle.tree.specs.Nested.{Nested}
 use Rattle.tree.specs.Reading.{leavesOf}
 use Rattle.tree.specs.declared.Tree.{Tree}
@@ -21,15 +21,16 @@ use Rattle.seed.proofs.Chain.{chain-sym}
 use Rattle.seed.proofs.ChainTest.{tells-chainable}
 use Rattle.optimum.specs.Chain.{Seeds, totalOf, total, IsBest}
 use Rattle.optimum.specs.Key.{Key, seedKey, inMask}
-use Rattle.optimum.proofs.Booleans.{T-eq, T-neq, and-r}
+use Rattle.optimum.proofs.Booleans.{T-eq, T-neq}
 use Rattle.optimum.proofs.Bounds.{total-most}
 use Rattle.optimum.proofs.BestChain.{Listed, by-number, best-is-best, best-total}
 use Rattle.seed.specs.Tab.{tab}
 use Rattle.seed.proofs.Tabs.{length-tab, getD-tab}
-use Rattle.table.specs.Rows.{Row, rowIn, inRange}
+use Rattle.table.specs.Rows.{Row, rowIn}
 use Rattle.table.specs.Table.{rowsOf, Kept}
 use Rattle.table.specs.declared.Table.{Table}
 use Rattle.table.proofs.Tables.{rows-length}
+use Rattle.table.proofs.Ranges.{range-most}
 use Rattle.best.specs.Best.{keyOf, bestOfKey, scratchNeeded, bestOf, seedsOf, named, NamesBest, Answered}
 use Rattle.best.specs.declared.Best.{Best}
 use Rattle.masks.proofs.Bits.{told-yes}
@@ -102,10 +103,6 @@ call-best q t table xs ys r h a room =
     (best-chain (tree-nested q (h .is-q)) (tree-nested t (h .is-t)) (rowsOf table) (λ i b. h .each i b .seed .pattern) (omega (arith, rows-length table, h .laid .few)))
 
 -- ---- how much a best total is at most
-
-pub range-most : (z : ℤ) → inRange z ≡ true → z ≤ℤ pos 1000000
-unfolding inRange
-range-most z e = leZ-yes (and-r (leZ (negsuc 999999) z) (leZ z (pos 1000000)) (rw e tt))
 
 -- 64 seeds of the greatest score.
 pub key-most : (q t : Tree) (table : Table) → Kept q t table → natAbs (keyOf (leavesOf q) (leavesOf t) (rowsOf table) .total) ≤ 64000000

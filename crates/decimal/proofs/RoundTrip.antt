@@ -7,8 +7,7 @@ use Prim.Native.Nat.{ℕ, zero, suc, _+_, _*_, _-_, _/_, _%_, _^_, _≤_, _<_}
 use native.Mathlib.Omega.{arith}
 use lib.ListN.{length, length-append}
 use lib.IntN.{ℤ, pos, negsuc, natAbs}
-use lib.Signed.{leZ}
-use borrow.Author.Tests.{le-leb, leb-true, le-ltb}
+use borrow.Author.Tests.{le-leb, le-ltb}
 use Rattle.answer.specs.declared.Answer.the-variants.{Accepted, Refused}
 use Rattle.answer.specs.declared.Ground.the-variants.{ScoreText}
 use Rattle.answer.specs.declared.Place.the-variants.{Nothing}
@@ -16,6 +15,7 @@ use Rattle.answer.proofs.Denied.{denies}
 use Rattle.answer.proofs.Tells.{both-true}
 use Rattle.write.specs.Decimal.{bytes, decimal}
 use Rattle.table.specs.Rows.{inRange}
+use Rattle.table.proofs.Ranges.{range-size}
 use Rattle.decimal.specs.Score.{isDigit, allDigits, digitsNumber, unsignedNumber, scoreForm, signedNumber, numberIn, isScore, noScore, scoreRead, twoDigits, unsignedText, numberText, beyond}
 use Rattle.decimal.specs.Parts.{MadeOf}
 use Rattle.decimal.specs.declared.ScoreRead.{ScoreRead}
@@ -25,11 +25,6 @@ use Rattle.decimal.proofs.Parts.{number-is, first-is, behind-is, sign-f
 use Rattle.decimal.proofs.Signs.{size-few}
 
 -- ---- bounds
-
-pub range-size : (z : ℤ) → inRange z ≡ true → natAbs z ≤ 1000000
-unfolding inRange
-range-size (pos n) e = leb-true n 1000000 e
-range-size (negsuc n) e = omega (arith, leb-true n 999999 (both-true (leZ (negsuc 999999) (negsuc n)) true e .0))
 
 -- A score is no number that the writer refuses.
 pub range-within : (z : ℤ) → inRange z ≡ true → beyond z ≡ false

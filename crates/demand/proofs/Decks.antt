@@ -7,11 +7,9 @@ use Prim.Native.Nat.{ℕ, suc, _+_, _≤_, _<_}
 use native.Mathlib.Omega.{arith}
 use lib.ListN.{length, take, length-append}
 use lib.IntN.{ℤ, pos, negsuc}
-use lib.Signed.{mag, leZ}
-use borrow.Author.Tests.{leb-true}
+use lib.Signed.{mag}
 use Rattle.answer.specs.declared.Answer.{Answer}
 use Rattle.answer.specs.declared.Answer.the-variants.{Accepted}
-use Rattle.answer.proofs.Tells.{both-true}
 use Rattle.write.specs.Wrote.{Wrote}
 use Rattle.write.specs.declared.Written.{Written}
 use Rattle.write.proofs.Wrote.{wrote-front}
@@ -24,6 +22,7 @@ use Rattle.judge.proofs.Grounds.{accepts-seeds}
 use Rattle.table.specs.Rows.{Row, pairsInAll, presentRows, inRange, AllHold}
 use Rattle.table.specs.Table.{rowsOf}
 use Rattle.table.proofs.Tables.{rows-length, rows-count}
+use Rattle.table.proofs.Ranges.{range-size}
 use Rattle.deck.specs.Deck as deck
 use Rattle.deck.specs.Deck.{chainsOf}
 use Rattle.deck.specs.Handed.{rowsIn}
@@ -49,9 +48,8 @@ use Rattle.demand.proofs.Openings.{both-spelled, deck-state, reached-st
 
 -- A score in range is stored as it is.
 range-small : (z : ℤ) → inRange z ≡ true → mag z < 2147483648
-unfolding inRange
-range-small (pos n) e = omega (arith, leb-true n 1000000 e)
-range-small (negsuc n) e = omega (arith, leb-true n 999999 (both-true (leZ (negsuc 999999) (negsuc n)) true e .0))
+range-small (pos n) e = omega (arith, range-size (pos n) e)
+range-small (negsuc n) e = omega (arith, range-size (negsuc n) e)
 
 -- The present ones of rows that hold seeds can be written, and are judged seeds.
 module _ (q t : Tree) (tree-q : Nested (leavesOf q)) (tree-t : Nested (leavesOf t)) where

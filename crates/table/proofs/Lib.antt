@@ -1,3 +1,4 @@
 pub mod Nodes
 pub mod Tables
 pub mod Held
+pub mod Ranges
