@@ -43,11 +43,11 @@ pub texts-refused :
 unfolding scoreRead isScore scoreForm unsignedForm numberIn unsignedNumber digitsNumber idleZero allDigits isDigit wholeIn pointIn hundredthsIn minusFirst behindMinus inRange
 texts-refused = refl
 
-pub numbers-written :
+pub texts-written :
     map numberText (pos 0 ∷ pos 5 ∷ negsuc 49 ∷ pos 432 ∷ pos 1000000 ∷ pos 64000000 ∷ negsuc 63999999 ∷ [])
     ≡ bytes "0.00" ∷ bytes "0.05" ∷ bytes "-0.50" ∷ bytes "4.32" ∷ bytes "10000.00" ∷ bytes "640000.00" ∷ bytes "-640000.00" ∷ []
 unfolding numberText unsignedText twoDigits digits
-numbers-written = refl
+texts-written = refl
 
 -- The largest and the smallest total, and one hundredth beyond each.
 pub numbers-beyond : map beyond (pos 64000000 ∷ negsuc 63999999 ∷ pos 64000001 ∷ negsuc 64000000 ∷ []) ≡ false ∷ false ∷ true ∷ true ∷ []

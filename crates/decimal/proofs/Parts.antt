@@ -15,7 +15,7 @@ use Rattle.write.specs.Decimal.{bytes}
 use Rattle.decimal.specs.Score.{minusFirst, behindMinus, wholeIn, pointIn, hundredthsIn, isDigit, allDigits, idleZero, unsignedForm, digitsNumber, unsignedNumber, scoreForm, signedNumber, numberIn}
 use Rattle.decimal.specs.Parts.{MadeOf}
 use Rattle.decimal.proofs.Digits.{digit-range}
-use Rattle.decimal.proofs.Forms.{Parts, whole-length, hundredths-length, form-parts}
+use Rattle.decimal.proofs.Forms.{behind-none, Parts, whole-length, hundredths-length, form-parts}
 
 -- ---- from the parts to the text
 
@@ -51,21 +51,17 @@ module _ (whole hundredths : List ℕ) (two : length hundredths ≡ 2) where
   form-is one five all both idle = rw (whole-is, point-is, hundredths-is, le-leb 1 (length whole) one, le-leb (length whole) 5 five, all, both, idle)
 
 -- A text that begins with a digit has no minus.
-pub no-minus : (whole rest : List ℕ) → 1 ≤ length whole → allDigits whole ≡ true → minusFirst (whole ++ rest) ≡ false
+no-minus : (whole rest : List ℕ) → 1 ≤ length whole → allDigits whole ≡ true → minusFirst (whole ++ rest) ≡ false
 unfolding minusFirst allDigits
 no-minus [] rest one all = absurd (omega arith)
 no-minus (b ∷ s) rest one all =
     let range = digit-range b (both-true (isDigit b) (allDigits s) all .0) in
     ne-eqb b 45 (λ e. omega arith)
 
--- What stands behind the minus of a text, by its sign.
-pub behind-with : (s : List ℕ) → behindMinus (45 ∷ s) ≡ s
+-- What stands behind a minus.
+behind-hyphen : (s : List ℕ) → behindMinus (45 ∷ s) ≡ s
 unfolding behindMinus minusFirst
-behind-with s = refl
-
-pub behind-without : (s : List ℕ) → minusFirst s ≡ false → behindMinus s ≡ s
-unfolding behindMinus
-behind-without s e = rw e
+behind-hyphen s = refl
 
 minus-not-zero : (minus : Bool) (n : ℕ) → (minus ≡ true → n ≡ 0 → ⊥) → not (minus && eqb n 0) ≡ true
 minus-not-zero true n h = rw (ne-eqb n 0 (h refl))
@@ -85,8 +81,8 @@ module _ (whole hundredths : List ℕ) (one : 1 ≤ length whole) (all : allDigi
   first-is false = ap minusFirst (append-snoc whole 46 hundredths) ∙ no-minus whole (46 ∷ hundredths) one all
 
   pub behind-is : (minus : Bool) → behindMinus (signed minus) ≡ unsigned
-  behind-is true = behind-with unsigned
-  behind-is false = behind-without unsigned (first-is false)
+  behind-is true = behind-hyphen unsigned
+  behind-is false = sym (behind-none unsigned (first-is false))
 
 module _ {minus : Bool} {whole hundredths s : List ℕ} {z : ℤ} (made : MadeOf minus whole hundredths s z) where
   first : minusFirst s ≡ minus

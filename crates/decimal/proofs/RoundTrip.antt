@@ -5,7 +5,7 @@ use mathlib.Core.Logic.{_↔_}
 use mathlib.Core.List.{List, [], _∷_, _++_}
 use Prim.Native.Nat.{ℕ, zero, suc, _+_, _*_, _-_, _/_, _%_, _^_, _≤_, _<_}
 use native.Mathlib.Omega.{arith}
-use lib.ListN.{length, length-append}
+use lib.ListN.{length}
 use lib.IntN.{ℤ, pos, negsuc, natAbs}
 use borrow.Author.Tests.{le-leb, le-ltb}
 use Rattle.answer.specs.declared.Answer.the-variants.{Accepted, Refused}
@@ -23,6 +23,7 @@ use Rattle.decimal.proofs.Digits.{digit-range}
 use Rattle.decimal.proofs.Decimals.{digits-all, digits-number, digits-some, digits-few, digits-not-idle, digits-of-number}
 use Rattle.decimal.proofs.Parts.{number-is, first-is, behind-is, sign-front, made-form, form-made}
 use Rattle.decimal.proofs.Signs.{size-few}
+use Rattle.decimal.proofs.Texts.{length-unsigned}
 
 -- ---- bounds
 
@@ -164,8 +165,7 @@ accepted-written s z e =
 -- ---- how long a text is
 
 unsigned-long : (j n : ℕ) → n / 100 < 10 ^ suc j → (4 ≤ length (unsignedText n)) × (length (unsignedText n) ≤ j + 4)
-unfolding unsignedText twoDigits
-unsigned-long j n h = (simp length-append (omega (arith, digits-some 19 (n / 100))), simp length-append (omega (arith, digits-few 20 j (n / 100) h)))
+unsigned-long j n h = (omega (arith, length-unsigned n, digits-some 19 (n / 100)), omega (arith, length-unsigned n, digits-few 20 j (n / 100) h))
 
 number-long : (j : ℕ) (z : ℤ) → natAbs z / 100 < 10 ^ suc j → (4 ≤ length (numberText z)) × (length (numberText z) ≤ j + 5)
 unfolding numberText

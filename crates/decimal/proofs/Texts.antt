@@ -2,7 +2,7 @@
 use mathlib.Core.Path.{_≡_, refl, ap, _∙_}
 use mathlib.Core.Bool.{Bool, true, false}
 use mathlib.Core.List.{List}
-use Prim.Native.Nat.{ℕ, suc, _-_, _/_, _≤_}
+use Prim.Native.Nat.{ℕ, _+_, _-_, _/_, _≤_}
 use native.Mathlib.Omega.{arith}
 use lib.ListN.{length, take, replicate, length-append}
 use lib.Seq.{take-at}
@@ -15,7 +15,7 @@ use Rattle.decimal.specs.Score.{twoDigits, unsignedText, numberText}
 use Rattle.decimal.specs.inner.Texts.{signedText, textRoom, textLaid}
 use Rattle.decimal.specs.declared.text.NumberText.{NumberText}
 
-length-unsigned : (n : ℕ) → length (unsignedText n) ≡ suc (suc (suc (length (decimal (n / 100)))))
+pub length-unsigned : (n : ℕ) → length (unsignedText n) ≡ length (decimal (n / 100)) + 3
 unfolding unsignedText twoDigits
 length-unsigned n = simp length-append (omega arith)
 
