@@ -99,9 +99,9 @@ written-form (pos n) e = made-form (score-made n false (range-size (pos n) e) (�
 written-form (negsuc n) e = made-form (score-made (suc n) true (range-size (negsuc n) e) (λ m z. omega arith))
 
 -- A written score reads back as itself.
-pub read-back : (z : ℤ) → inRange z ≡ true → scoreRead (numberText z) ≡ record { answer = Accepted; score = z }
+pub written-read-back : (z : ℤ) → inRange z ≡ true → scoreRead (numberText z) ≡ record { answer = Accepted; score = z }
 unfolding scoreRead isScore
-read-back z e = rw (written-form z e, number-back z (range-within z e), e)
+written-read-back z e = rw (written-form z e, number-back z (range-within z e), e)
 
 -- ---- an accepted text is what the writer would write
 
