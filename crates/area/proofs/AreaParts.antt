@@ -1,24 +1,31 @@
 -- The parts of its memory that listing the areas hands on: of trees that were read, of lists that hold a seed, and of arrays of gaps.
 use mathlib.Core.Path.{_≡_, sym, ap, subst, _∙_}
-use mathlib.Core.List.{List}
+use mathlib.Core.List.{List, Memᴰ·of-map}
 use Prim.Native.Nat.{ℕ, _≤_}
 use native.Mathlib.Omega.{arith}
-use lib.ListN.{length, take, length-take}
+use lib.ListN.{length, getD, take, length-take}
 use lib.Seq.{take-at}
 use Rattle.tree.specs.Reading.{IsTree, leavesOf}
 use Rattle.tree.specs.declared.Tree.{Tree}
 use Rattle.tree.proofs.Trees.{tree-nodes, tree-length, tree-nested}
 use Rattle.seed.specs.Tab.{tab}
 use Rattle.seed.specs.Area.{Box}
-use Rattle.seed.specs.AreaList.{areas}
-use Rattle.area.specs.inner.Gaps.{gap, filled, boxesBelow}
+use Rattle.seed.specs.Seed.{_∈_, qs, qOf}
+use Rattle.area.specs.PaperOrder.{areasBy}
+use Rattle.area.specs.inner.Gaps.{gap, filled}
+use Rattle.area.specs.inner.Walk.{boxesBy, Walkable, AsMany}
 use Rattle.area.specs.Listed.{ListedRight}
 use Rattle.seed.specs.Pairs.{pairsOf, Held}
 use Rattle.area.specs.declared.Listed.{Listed}
+use Rattle.area.specs.declared.Order.{Order}
+use Rattle.area.specs.declared.Order.the-variants.{RisingA, Paper}
 use Rattle.seed.proofs.PairLists.{nodes-first, nodes-second, cut-first, cut-second}
 use Rattle.seed.proofs.Tabs.{length-tab}
+use Rattle.seed.proofs.Lists.{at-in}
 use Rattle.area.proofs.Gaps.{seed-few}
 use Rattle.area.proofs.GapLists.{areas-meet}
+use Rattle.area.proofs.PaperWalk.{paper-walk}
+use Rattle.area.proofs.PaperOrder.{paper-count}
 
 pub leaves-few : (t : Tree) → IsTree t → length (leavesOf t) ≤ 256
 leaves-few t h = omega (arith, tree-length t h, tree-nodes t h)
@@ -43,17 +50,50 @@ module _ (t : Tree) (is : IsTree t) (f : ℕ → ℕ) (all : List ℕ) (e : all 
   pub filled-few : length (take (t .n) all) ≤ 256
   filled-few = omega (arith, filled-length, tree-nodes t is)
 
--- The areas of a seed are the boxes of what stands in both arrays.
-pub held-areas :
-    (q t : Tree) (a b : List ℕ) (held : Held q t (pairsOf a b)) (k : ℕ)
-    → k ≡ length (pairsOf a b)
-    → (g h : List ℕ)
-    → g ≡ filled (gap (leavesOf q) (take k a)) (length (leavesOf q))
-    → h ≡ filled (gap (leavesOf t) (take k b)) (length (leavesOf t))
-    → boxesBelow (take (q .n) g) (take (t .n) h) (length (take (q .n) g)) ≡ areas (leavesOf q) (leavesOf t) (pairsOf a b)
-held-areas q t a b held k e g h u v =
-    rw (filled-take q (held .is-q) (gap (leavesOf q) (take k a)) g u, filled-take t (held .is-t) (gap (leavesOf t) (take k b)) h v, e, ← nodes-first a b, ← nodes-second a b)
-    (sym (areas-meet (tree-nested q (held .is-q)) (tree-nested t (held .is-t)) (pairsOf a b) (held .seed .pattern) (leaves-few q (held .is-q))))
+-- Two arrays that hold the gaps of a seed's nodes, and the seed's nodes in Q, to be walked.
+module _
+    (q t : Tree)
+    (a b : List ℕ)
+    (held : Held q t (pairsOf a b))
+    (k : ℕ)
+    (e : k ≡ length (pairsOf a b))
+    (g h : List ℕ)
+    (u : g ≡ filled (gap (leavesOf q) (take k a)) (length (leavesOf q)))
+    (v : h ≡ filled (gap (leavesOf t) (take k b)) (length (leavesOf t)))
+  where
+    nodes-q : qs (pairsOf a b) ≡ take k a
+    nodes-q = nodes-first a b ∙ ap (λ (n : ℕ). take n a) (sym e)
+
+    pub held-walkable : Walkable (leavesOf q) (take k a) (take (q .n) g) (take (t .n) h)
+    held-walkable =
+        record {
+          trees = record {
+            tree = tree-nested q (held .is-q);
+            same = tree-length q (held .is-q) ∙ filled-length q (held .is-q) (gap (leavesOf q) (take k a)) g u;
+            few-g = filled-few q (held .is-q) (gap (leavesOf q) (take k a)) g u;
+            few-h = filled-few t (held .is-t) (gap (leavesOf t) (take k b)) h v;
+          };
+          inside = λ i l.
+              let w = Memᴰ·of-map qOf (pairsOf a b) (subst (λ (xs : List ℕ). getD (take k a) i 0 ∈ xs) (sym nodes-q) (at-in (take k a) i l)) in
+              omega (arith, w .2, held .seed .pattern .nodes (w .0) (w .1) .0);
+        }
+
+    -- The areas of the seed are the boxes of what stands in both arrays, in either order.
+    pub held-areas : (order : Order) → boxesBy order (leavesOf q) (take k a) (take (q .n) g) (take (t .n) h) ≡ areasBy order (leavesOf q) (leavesOf t) (pairsOf a b)
+    unfolding boxesBy areasBy
+    held-areas RisingA =
+        rw (filled-take q (held .is-q) (gap (leavesOf q) (take k a)) g u, filled-take t (held .is-t) (gap (leavesOf t) (take k b)) h v, e, ← nodes-first a b, ← nodes-second a b)
+        (sym (areas-meet (tree-nested q (held .is-q)) (tree-nested t (held .is-t)) (pairsOf a b) (held .seed .pattern) (leaves-few q (held .is-q))))
+    held-areas Paper =
+        rw (filled-take q (held .is-q) (gap (leavesOf q) (take k a)) g u, filled-take t (held .is-t) (gap (leavesOf t) (take k b)) h v, e, ← nodes-first a b, ← nodes-second a b)
+        (paper-walk (tree-nested q (held .is-q)) (tree-nested t (held .is-t)) (pairsOf a b) (held .seed .pattern) (leaves-few q (held .is-q)))
+
+    pub held-as-many : AsMany (leavesOf q) (take k a) (take (q .n) g) (take (t .n) h)
+    unfolding boxesBy areasBy
+    held-as-many =
+        ap length (held-areas Paper)
+        ∙ paper-count (tree-nested q (held .is-q)) (tree-nested t (held .is-t)) (pairsOf a b) (held .seed .pattern)
+        ∙ ap length (sym (held-areas RisingA))
 
 -- What is right of the same areas is right.
 pub listed-as : (xs ys : List Box) (o : List ℕ) (r : Listed) (after : List ℕ) → xs ≡ ys → ListedRight xs o r after → ListedRight ys o r after

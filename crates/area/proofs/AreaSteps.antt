@@ -14,9 +14,8 @@ use borrow.Author.Tests.{eq-eqb, ne-eqb, lt-ltb, le-ltb, le-leb, lt-leb}
 use Rattle.answer.specs.declared.Ground.the-variants.{OutputShort}
 use Rattle.answer.specs.declared.Place.the-variants.{Nothing}
 use Rattle.answer.specs.declared.Answer.the-variants.{Accepted, Refused}
-use Rattle.write.specs.Puts.{Puts}
-use Rattle.write.proofs.Sets.{sets-append}
-use Rattle.write.proofs.Puts.{puts-output}
+use Rattle.write.specs.Puts.{Puts, Room}
+use Rattle.write.proofs.Puts.{puts-as, puts-none, puts-output, puts-length, puts-both, room-last}
 use Rattle.write.proofs.Wrote.{output-all, output-none}
 use Rattle.tree.proofs.Leaves.{lt-or-le}
 use Rattle.seed.specs.Area.{Box}
@@ -81,28 +80,26 @@ module _ (g h : List ℕ) (a c : ℕ) (first : c ≡ firstBelow (like (getD g a 
   unfolding boxFrom boxRow boxAt meet
   row-one b d e eb ed = rw (← first, e, ed, eb, ← column-like g h c)
 
-  pub row-skipped : (k : ℕ) (o : List ℕ) → begins (meet g h) (length h) a c ≡ false → (k ≡ k + length (boxFrom g h a)) × (o ≡ sets o (k * 4) (bytesOf (boxFrom g h a)))
+  pub row-skipped : {at : ℕ} {o : List ℕ} → Room (bytesOf (boxFrom g h a)) at o → begins (meet g h) (length h) a c ≡ false → Puts (bytesOf (boxFrom g h a)) at o o at
   unfolding bytesOf
-  row-skipped k o e = rw (row-none e) (omega arith, refl)
+  row-skipped room e = puts-none room (ap bytesOf (row-none e))
 
   module _ (e : begins (meet g h) (length h) a c ≡ true) where
     pub row-length : length (boxFrom g h a) ≡ 1
     row-length = ap length (row-one _ _ e refl refl)
 
     pub row-written :
-        (b d k : ℕ) (o after : List ℕ)
+        (b d : ℕ)
         → b ≡ lastBelow (like (getD h c 0) g) (length g)
         → d ≡ lastBelow (like (getD g a 0) h) (length h)
-        → (k + length (boxFrom g h a)) * 4 ≤ length o
-        → {next : ℕ}
-        → Puts (a ∷ b ∷ c ∷ d ∷ []) (k * 4) o after next
-        → (k + 1 ≡ k + length (boxFrom g h a)) × (after ≡ sets o (k * 4) (bytesOf (boxFrom g h a)))
+        → {at : ℕ} {o after : List ℕ} {next : ℕ}
+        → Puts (a ∷ b ∷ c ∷ d ∷ []) at o after next
+        → Puts (bytesOf (boxFrom g h a)) at o after next
     unfolding bytesOf
-    row-written b d k o after eb ed room put =
-        (omega (arith, row-length), rw (row-one b d e eb ed) (puts-output (record { fits = omega (arith, row-length) }) put))
+    row-written b d eb ed put = puts-as (ap bytesOf (sym (row-one b d e eb ed))) put
 
 -- The bytes of boxes.
-bytes-append : (xs ys : List Box) → bytesOf (xs ++ ys) ≡ bytesOf xs ++ bytesOf ys
+pub bytes-append : (xs ys : List Box) → bytesOf (xs ++ ys) ≡ bytesOf xs ++ bytesOf ys
 unfolding bytesOf
 bytes-append [] ys = refl
 bytes-append (x ∷ xs) ys = ap (λ (r : List ℕ). x .a ∷ x .b ∷ x .c ∷ x .d ∷ r) (bytes-append xs ys)
@@ -114,7 +111,7 @@ bytes-length (x ∷ xs) = omega (arith, bytes-length xs)
 
 -- The boxes of the rows below a, and one row more.
 module _ (g h : List ℕ) where
-  below-next : (a : ℕ) → boxesBelow g h (a + 1) ≡ boxesBelow g h a ++ boxFrom g h a
+  pub below-next : (a : ℕ) → boxesBelow g h (a + 1) ≡ boxesBelow g h a ++ boxFrom g h a
   unfolding boxesBelow boxFrom boxes
   below-next a = rw add-one
 
@@ -156,32 +153,31 @@ module _ (g h : List ℕ) where
   pub count-all : (a n k : ℕ) → k ≡ length (boxesBelow g h a) → a ≡ n → k ≡ length (boxesBelow g h n)
   count-all a n k e f = e ∙ ap (λ (x : ℕ). length (boxesBelow g h x)) f
 
--- The boxes of the rows below a are written, k of them.
-pub record WrittenBelow (g h o₀ : List ℕ) (a k : ℕ) (o : List ℕ) : Type 0 where
-  pub count : k ≡ length (boxesBelow g h a)
-  pub out : o ≡ sets o₀ 0 (bytesOf (boxesBelow g h a))
-
-pub write-start : {g h o : List ℕ} → WrittenBelow g h o 0 0 o
+-- The boxes of the rows below a are written.
+pub write-start : (g h : List ℕ) {o : List ℕ} → Puts (bytesOf (boxesBelow g h 0)) 0 o o 0
 unfolding boxesBelow boxes bytesOf
-write-start = record { count = refl; out = refl }
+write-start g h = puts-none (record { fits = omega arith }) refl
 
-module _ {g h o₀ : List ℕ} {a k : ℕ} {o : List ℕ} (p : WrittenBelow g h o₀ a k o) where
-  pub write-length : length o ≡ length o₀
-  write-length = ap length (p .out) ∙ length-sets o₀ 0 (bytesOf (boxesBelow g h a))
+module _ (g h : List ℕ) {o₀ : List ℕ} (room : Room (bytesOf (boxesBelow g h (length g))) 0 o₀) (a : ℕ) {at : ℕ} {o : List ℕ} (put : Puts (bytesOf (boxesBelow g h a)) 0 o₀ o at) where
+  split : bytesOf (boxesBelow g h (a + 1)) ≡ bytesOf (boxesBelow g h a) ++ bytesOf (boxFrom g h a)
+  split = ap bytesOf (below-next g h a) ∙ bytes-append (boxesBelow g h a) (boxFrom g h a)
 
-  pub write-room : a < length g → length (boxesBelow g h (length g)) * 4 ≤ length o₀ → (k ≤ a) × ((k + length (boxFrom g h a)) * 4 ≤ length o)
-  write-room u v = omega (arith, p .count, below-few g h a, count-next g h a k _ (p .count) refl, below-grow g h (a + 1) (length g) (omega arith), write-length)
+  -- What has room for all has room for those of the first rows.
+  room-below : (n : ℕ) → n ≤ length g → Room (bytesOf (boxesBelow g h n)) 0 o₀
+  room-below n u = record { fits = omega (arith, room .fits, bytes-length (boxesBelow g h n), bytes-length (boxesBelow g h (length g)), below-grow g h n (length g) u) }
 
-  pub write-next : (r : ℕ) (after : List ℕ) → r ≡ k + length (boxFrom g h a) → after ≡ sets o (k * 4) (bytesOf (boxFrom g h a)) → WrittenBelow g h o₀ (a + 1) r after
-  write-next r after e f =
-      let z : k * 4 ≡ 0 + length (bytesOf (boxesBelow g h a)) = omega (arith, bytes-length (boxesBelow g h a), p .count) in
-      record {
-        count = e ∙ count-next g h a k _ (p .count) refl;
-        out = f ∙ rw (p .out, z, below-next g h a, bytes-append) (sets-append o₀ 0 (bytesOf (boxesBelow g h a)) (bytesOf (boxFrom g h a)));
-      }
+  module _ (u : a < length g) where
+    pub write-room : Room (bytesOf (boxFrom g h a)) at o
+    write-room = room-last (room-below (a + 1) (omega arith)) put split
+
+    pub write-next : {after : List ℕ} {next : ℕ} → Puts (bytesOf (boxFrom g h a)) at o after next → Puts (bytesOf (boxesBelow g h (a + 1))) 0 o₀ after next
+    write-next = puts-both (room-below (a + 1) (omega arith)) put split
+
+  pub write-length : a ≤ length g → length o ≡ length o₀
+  write-length u = puts-length (room-below a u) put
 
   pub write-all : a ≡ length g → o ≡ sets o₀ 0 (bytesOf (boxesBelow g h (length g)))
-  write-all e = p .out ∙ ap (λ (n : ℕ). sets o₀ 0 (bytesOf (boxesBelow g h n))) e
+  write-all e = puts-output room (puts-as (ap (λ (n : ℕ). bytesOf (boxesBelow g h n)) e) put)
 
 -- The answer, by whether the output has room.
 module _ (xs : List Box) (o : List ℕ) (k : ℕ) (e : k ≡ length xs) where

@@ -22,7 +22,7 @@ use Rattle.seed.proofs.Areas.{fits-level, level-fits}
 
 -- The gap from a list, by the side of its first node.
 module _ (l : List ℕ) (i x : ℕ) (xs : List ℕ) (k : ℕ) where
-  gap-left : side l x i ≡ 0 → gapFrom l i (x ∷ xs) k ≡ gapFrom l i xs (k + 256)
+  pub gap-left : side l x i ≡ 0 → gapFrom l i (x ∷ xs) k ≡ gapFrom l i xs (k + 256)
   unfolding gapFrom weight
   gap-left e = rw e
 
@@ -34,7 +34,7 @@ module _ (l : List ℕ) (i x : ℕ) (xs : List ℕ) (k : ℕ) where
   unfolding gapFrom
   gap-top e = rw e
 
-  gap-in : side l x i ≡ 3 → gapFrom l i (x ∷ xs) k ≡ 0
+  pub gap-in : side l x i ≡ 3 → gapFrom l i (x ∷ xs) k ≡ 0
   unfolding gapFrom
   gap-in e = rw e
 
@@ -88,7 +88,7 @@ module _ (l : List ℕ) (i : ℕ) where
       later r = (r .0, List·Memᴰ·tail (r .1), r .2)
 
   -- Where a node of the list is above i and none in its subtree, the gap is not 0.
-  above-gap : (xs : List ℕ) (k : ℕ) → 0 < k → ((x : ℕ) → x ∈ xs → side l x i ≢ 3) → (x : ℕ) → x ∈ xs → side l x i ≡ 2 → 0 < gapFrom l i xs k
+  pub above-gap : (xs : List ℕ) (k : ℕ) → 0 < k → ((x : ℕ) → x ∈ xs → side l x i ≢ 3) → (x : ℕ) → x ∈ xs → side l x i ≡ 2 → 0 < gapFrom l i xs k
   above-gap [] k p h x m e = elim m [ ]
   above-gap (y ∷ ys) k p h x m e =
       elim (side-of l y i) [

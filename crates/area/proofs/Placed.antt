@@ -1,7 +1,7 @@
 -- The areas of the seed at a place of a table, and of no seed: none.
 use mathlib.Core.Path.{_≡_, refl, subst}
 use mathlib.Core.Bool.{Bool, true, false, _&&_}
-use mathlib.Core.List.{List, []}
+use mathlib.Core.List.{List, [], flatMap}
 use Prim.Native.Nat.{ℕ, zero, suc, _≤_, _<_}
 use native.Mathlib.Omega.{arith}
 use lib.ListN.{length, getD}
@@ -17,8 +17,11 @@ use Rattle.table.specs.Rows.{noRow}
 use Rattle.table.specs.Table.{nodesOf, pairsAt, rowAt, rowsOf, Kept}
 use Rattle.table.specs.declared.Table.{Table}
 use Rattle.table.proofs.Tables.{rows-length, row-there, row-past}
+use Rattle.area.specs.PaperOrder.{areasInPaperOrder, areasBy}
 use Rattle.area.specs.Listed.{ListedRight}
 use Rattle.area.specs.declared.Listed.{Listed}
+use Rattle.area.specs.declared.Order.{Order}
+use Rattle.area.specs.declared.Order.the-variants.{RisingA, Paper}
 use Rattle.area.proofs.AreaSteps.{list-accepted}
 
 -- ---- no seed
@@ -43,13 +46,14 @@ nothing-fits : (Q T : List ℕ) (i j : ℕ) → fits Q T [] i j ≡ false
 unfolding fits above
 nothing-fits Q T i j = rw (le-ltb i 0 (omega arith), not-both)
 
-no-areas : (Q T : List ℕ) → areas Q T [] ≡ []
-unfolding areas
-no-areas Q T = no-boxes (fits Q T []) (nothing-fits Q T) (length Q) (length T) (length Q)
+no-areas : (order : Order) (Q T : List ℕ) → areasBy order Q T [] ≡ []
+unfolding areasBy areas areasInPaperOrder flatMap
+no-areas RisingA Q T = no-boxes (fits Q T []) (nothing-fits Q T) (length Q) (length T) (length Q)
+no-areas Paper Q T = refl
 
-pub listed-none : (q t : Tree) (table : Table) (at : ℕ) (out : List ℕ) → table .seeds ≤ at → ListedRight (areas (leavesOf q) (leavesOf t) (getD (rowsOf table) at noRow .pairs)) out (record { answer = Accepted; count = 0 }) out
+pub listed-none : (q t : Tree) (table : Table) (at : ℕ) (order : Order) (out : List ℕ) → table .seeds ≤ at → ListedRight (areasBy order (leavesOf q) (leavesOf t) (getD (rowsOf table) at noRow .pairs)) out (record { answer = Accepted; count = 0 }) out
 unfolding bytesOf
-listed-none q t table at out l = rw (row-past table at l, no-areas (leavesOf q) (leavesOf t)) (list-accepted [] out 0 refl out (omega arith) refl)
+listed-none q t table at order out l = rw (row-past table at l, no-areas order (leavesOf q) (leavesOf t)) (list-accepted [] out 0 refl out (omega arith) refl)
 
 -- ---- the seed at a place
 
@@ -61,5 +65,5 @@ module _ (q t : Tree) (table : Table) (at : ℕ) (h : Kept q t table) (l : at < 
   pub held-there : Held q t (pairsOf a b)
   held-there = record { is-q = h .is-q; is-t = h .is-t; seed = rw pairs-are (h .each at (omega (arith, rows-length table)) .seed) }
 
-  pub listed-there : {before after : List ℕ} {r : Listed} → ListedRight (areas (leavesOf q) (leavesOf t) (pairsOf a b)) before r after → ListedRight (areas (leavesOf q) (leavesOf t) (getD (rowsOf table) at noRow .pairs)) before r after
-  listed-there {before} {after} {r} w = subst (λ (ps : List Pair). ListedRight (areas (leavesOf q) (leavesOf t) ps) before r after) pairs-are w
+  pub listed-there : (order : Order) {before after : List ℕ} {r : Listed} → ListedRight (areasBy order (leavesOf q) (leavesOf t) (pairsOf a b)) before r after → ListedRight (areasBy order (leavesOf q) (leavesOf t) (getD (rowsOf table) at noRow .pairs)) before r after
+  listed-there order {before} {after} {r} w = subst (λ (ps : List Pair). ListedRight (areasBy order (leavesOf q) (leavesOf t) ps) before r after) pairs-are w

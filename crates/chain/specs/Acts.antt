@@ -13,6 +13,8 @@ use Rattle.answer.specs.declared.Answer.the-variants.{Accepted}
 use Rattle.tree.specs.Reading.{leavesOf}
 use Rattle.seed.specs.Area.{Box}
 use Rattle.seed.specs.AreaList.{areas}
+use Rattle.area.specs.PaperOrder.{areasBy}
+use Rattle.area.specs.declared.Order.{Order}
 use Rattle.seed.specs.declared.Pair.{Pair}
 use Rattle.table.specs.Rows.{newRow, givenOut, rowOf, withRow, withScore, withPresence, presentRows, inRange}
 use Rattle.adding.specs.Adding.{nextAnswer}
@@ -20,20 +22,23 @@ use Rattle.best.specs.Best.{scratchNeeded}
 use Rattle.plain.specs.Plain.{plainOf}
 use Rattle.chain.specs.State.{State, changed, countAnswer}
 
--- A room is how long the lent memory is.
+-- A room is how long the lent memory is; an order is that in which areas are listed.
 pub data Act : Type 0 where
   add : List Pair → ℤ → Act
   withdraw : ℕ → Act
   bringBack : ℕ → Act
   rescore : ℕ → ℤ → Act
   bestChain : ℕ → Act
-  listAreas : ℕ → ℕ → Act
+  listAreas : Order → ℕ → ℕ → Act
   writeDeck : ℕ → Act
   showRow : ℕ → Act
 
--- The open areas of number k, and the deck of the present seeds.
+-- The open areas of number k by rising a, and in an order; and the deck of the present seeds.
 unfoldable pub areasOf : State → ℕ → List Box
 areasOf s k = areas (leavesOf (s .q)) (leavesOf (s .t)) (rowOf (s .rows) k .pairs)
+
+unfoldable pub areasIn : Order → State → ℕ → List Box
+areasIn order s k = areasBy order (leavesOf (s .q)) (leavesOf (s .t)) (rowOf (s .rows) k .pairs)
 
 unfoldable pub deckOf : State → List ℕ
 deckOf s = plainOf (presentRows (s .rows))
@@ -54,14 +59,14 @@ moveAnswer s k to = ofNumber s k (given (Bool·beq (rowOf (s .rows) k .present) 
 abbrev pub rescoreAnswer : State → ℕ → ℤ → Answer
 rescoreAnswer s k z = ofNumber s k (given (not (inRange z)) ScoreRange (Seed k) (countAnswer (s .changes)))
 
--- What each call answers.
+-- What each call answers. Listing areas answers the same in either order.
 unfoldable pub grounds : State → Act → Answer
 grounds s (add ps z) = addAnswer s ps z
 grounds s (withdraw k) = moveAnswer s k false
 grounds s (bringBack k) = moveAnswer s k true
 grounds s (rescore k z) = rescoreAnswer s k z
 grounds s (bestChain room) = given (ltb room scratchNeeded) ScratchShort Nothing Accepted
-grounds s (listAreas k room) = ofNumber s k (given (ltb room (length (areasOf s k) * 4)) OutputShort Nothing Accepted)
+grounds s (listAreas order k room) = ofNumber s k (given (ltb room (length (areasOf s k) * 4)) OutputShort Nothing Accepted)
 grounds s (writeDeck room) = given (ltb room (length (deckOf s))) OutputShort Nothing Accepted
 grounds s (showRow k) = ofNumber s k Accepted
 
@@ -72,7 +77,7 @@ after (withdraw k) s = changed s (withRow (s .rows) k (withPresence (rowOf (s .r
 after (bringBack k) s = changed s (withRow (s .rows) k (withPresence (rowOf (s .rows) k) true))
 after (rescore k z) s = changed s (withRow (s .rows) k (withScore (rowOf (s .rows) k) z))
 after (bestChain room) s = s
-after (listAreas k room) s = s
+after (listAreas order k room) s = s
 after (writeDeck room) s = s
 after (showRow k) s = s
 

@@ -8,6 +8,7 @@ use answer::Ground;
 use answer::Place;
 use answer::refused;
 use area::Listed;
+use area::Order;
 use best::Best;
 use changing::changed;
 use changing::move_to;
@@ -26,6 +27,7 @@ use tree::Tree;
 use write::Written;
 ghost use mathlib.Core.Path.{_≡_};
 ghost use Rattle.seed.specs.Pairs.{pairsOf};
+ghost use Rattle.area.specs.declared.Order.the-variants.{RisingA, Paper};
 ghost use Rattle.chain.specs.Opening.{opening, deckOpening, Opens};
 ghost use Rattle.chain.specs.Acts.{add, rescore, withdraw, bringBack, numberGiven};
 ghost use Rattle.chain.specs.Looking.{shownOf, Chains, Lists, Writes};
@@ -84,6 +86,20 @@ pub fn open_deck(q: &[u8], t: &[u8], deck: &[u8]) -> Changed
         answer,
         session: session_on(tree_q, tree_t, table),
     }
+}
+
+// The open areas of a seed in an order.
+fn list_areas(s: Session, number: usize, order: Order, out: &mut [u8]) -> Listed
+    requires { ⌜ Sound s ⌝ }
+    ensures { λ r. ⌜ Lists (view s) order number (now (out .entry)) (now (out .exit)) r ⌝ }
+{
+    if !given_out(s.table.seeds, number) {
+        return Listed {
+            answer: refused(Ground::NumberNotGiven, Place::Nothing),
+            count: 0,
+        };
+    }
+    area::areas(s.q, s.t, s.table, number - 1, order, out)
 }
 
 impl Session {
@@ -171,18 +187,20 @@ impl Session {
         )
     }
 
-    // The open areas of a seed, present or not, written as four bytes each.
+    // The open areas of a seed, present or not, written as four bytes each, by rising a.
     pub fn areas(self, number: usize, out: &mut [u8]) -> Listed
         requires { ⌜ Sound self ⌝ }
-        ensures { λ r. ⌜ Lists (view self) number (now (out .entry)) (now (out .exit)) r ⌝ }
+        ensures { λ r. ⌜ Lists (view self) RisingA number (now (out .entry)) (now (out .exit)) r ⌝ }
     {
-        if !given_out(self.table.seeds, number) {
-            return Listed {
-                answer: refused(Ground::NumberNotGiven, Place::Nothing),
-                count: 0,
-            };
-        }
-        area::areas(self.q, self.t, self.table, number - 1, out)
+        list_areas(self, number, Order::RisingA, out)
+    }
+
+    // The same areas in the paper's order of work.
+    pub fn areas_in_paper_order(self, number: usize, out: &mut [u8]) -> Listed
+        requires { ⌜ Sound self ⌝ }
+        ensures { λ r. ⌜ Lists (view self) Paper number (now (out .entry)) (now (out .exit)) r ⌝ }
+    {
+        list_areas(self, number, Order::Paper, out)
     }
 
     // The deck of the present seeds in plain form.

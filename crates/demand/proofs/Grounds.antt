@@ -78,6 +78,6 @@ module _ (s : State) where
     call-decides (bringBack k) = move-decides k true
     call-decides (rescore k z) = numbered k (guard _ (tells-range z) ScoreRange (Seed k) count-decides)
     call-decides (bestChain room) = ground _ (tells-lt room scratchNeeded) ScratchShort Nothing
-    call-decides (listAreas k room) = numbered k (ground _ (tells-lt room (length (areasOf s k) * 4)) OutputShort Nothing)
+    call-decides (listAreas order k room) = numbered k (ground _ (tells-lt room (length (areasOf s k) * 4)) OutputShort Nothing)
     call-decides (writeDeck room) = ground _ (tells-lt room (length (deckOf s))) OutputShort Nothing
     call-decides (showRow k) = ground _ (tells-given s k) NumberNotGiven Nothing

@@ -22,14 +22,14 @@ use Rattle.demand.specs.Reached.Reached.{opened, called, looked}
 -- A call that hands over no session leaves every state as it is.
 still : {s : Session} {act : Act} {a : Answer} → Looked s act a → (x : State) → after act x ≡ x
 still (chained c) x = refl
-still (listed k c) x = refl
+still (listed order k c) x = refl
 still (written c) x = refl
 still (shown k c) x = refl
 
 -- It answers what its grounds say.
 pub looked-answer : {s : Session} {act : Act} {a : Answer} → Looked s act a → a ≡ grounds (view s) act
 looked-answer (chained c) = ap (λ (x : Best). x .answer) (c .answers)
-looked-answer (listed k c) = ap (λ (x : Listed). x .answer) (c .answers)
+looked-answer (listed order k c) = ap (λ (x : Listed). x .answer) (c .answers)
 looked-answer (written c) = ap (λ (x : Written). x .answer) (c .answers)
 looked-answer (shown k e) = ap (λ (x : Shown). x .answer) e
 
@@ -68,7 +68,7 @@ trees-after (withdraw k) s = (refl, refl)
 trees-after (bringBack k) s = (refl, refl)
 trees-after (rescore k z) s = (refl, refl)
 trees-after (bestChain room) s = (refl, refl)
-trees-after (listAreas k room) s = (refl, refl)
+trees-after (listAreas order k room) s = (refl, refl)
 trees-after (writeDeck room) s = (refl, refl)
 trees-after (showRow k) s = (refl, refl)
 

@@ -13,13 +13,13 @@ use Rattle.chain.specs.State.{State}
 use Rattle.chain.specs.View.{view}
 use Rattle.chain.specs.Opening.{Outcome, startWith}
 use Rattle.chain.specs.declared.Session.{Session}
+use Rattle.chain.proofs.Looks.{row-seed}
 use Rattle.demand.specs.History.{Event, stateOf}
 use Rattle.demand.specs.Reached.{Reached}
 use Rattle.demand.specs.Grounds.{GivenOut}
 use Rattle.demand.specs.Demands.{OpenedOn, tableBy}
 use Rattle.demand.proofs.Histories.{reached-sound}
 use Rattle.demand.proofs.Openings.{opened-few, reached-state, reached-trees}
-use Rattle.demand.proofs.Areas.{row-seed}
 
 module _ {o : Outcome} {r p : Run} {rows : List Row} (on : OpenedOn o r p rows) {s : Session} {h : List Event} (w : Reached o s h) where
   same-rows : view s .rows ≡ tableBy r p rows h
@@ -29,7 +29,7 @@ module _ {o : Outcome} {r p : Run} {rows : List Row} (on : OpenedOn o r p rows) 
   pub like-by-history : (k : ℕ) → GivenOut (stateOf (startWith (treeOf r) (treeOf p) rows) h) k → LikeNodes r p (rowOf (tableBy r p rows h) k .pairs)
   like-by-history k given =
       let out = subst (λ (xs : List Row). (1 ≤ k) × (k ≤ length xs)) (sym same-rows) given in
-      let seed = row-seed s (reached-sound w) k (record { low = out .0; high = out .1 }) in
+      let seed = row-seed s k (reached-sound w) (record { low = out .0; high = out .1 }) in
       let trees = reached-trees on w in
       let few = opened-few on in
       let like = subst₂ (λ (q t : Tree). LikeToLike q t (rowOf (view s .rows) k .pairs)) (trees .0) (trees .1) (seed .like) in

@@ -10,10 +10,12 @@ use Rattle.answer.specs.declared.Answer.the-variants.{Accepted}
 use Rattle.tree.specs.Run.{Run, lefts}
 use Rattle.tree.specs.Reading.{Spells, leavesOf, treeOf, single}
 use Rattle.write.specs.Wrote.{withBytes}
-use Rattle.seed.specs.Area.{Box, Areas}
+use Rattle.seed.specs.Area.{Box}
 use Rattle.seed.specs.AreaList.{bytesOf}
 use Rattle.seed.specs.declared.Pair.{Pair}
+use Rattle.area.specs.PaperOrder.{AreasInOrder}
 use Rattle.area.specs.declared.Listed.{Listed}
+use Rattle.area.specs.declared.Order.{Order}
 use Rattle.table.specs.Rows.{Row, rowOf}
 use Rattle.adding.specs.Adding.{Addable}
 use Rattle.optimum.specs.Chain.{Seeds}
@@ -35,10 +37,10 @@ pub record AddsRight (s : State) (ps : List Pair) (z : ℤ) (answer : Answer) (n
   pub given : answer ≡ Accepted → number ≡ length (s .rows) + 1
   pub none : (answer ≡ Accepted → ⊥) → number ≡ 0
 
--- What an accepted listing answers and leaves in the output: how many open areas the row of number k has, and their bytes.
-pub record ListsAreas (s : State) (k : ℕ) (before after : List ℕ) (r : Listed) : Type 0 where
+-- What an accepted listing answers and leaves in the output: how many open areas the row of number k has, and their bytes, in the order asked for.
+pub record ListsAreas (s : State) (order : Order) (k : ℕ) (before after : List ℕ) (r : Listed) : Type 0 where
   pub boxes : List Box
-  pub are : Areas (leavesOf (s .q)) (leavesOf (s .t)) (rowOf (s .rows) k .pairs) boxes
+  pub are : AreasInOrder order (leavesOf (s .q)) (leavesOf (s .t)) (rowOf (s .rows) k .pairs) boxes
   pub count : r .count ≡ length boxes
   pub output : after ≡ withBytes (bytesOf boxes) before
 

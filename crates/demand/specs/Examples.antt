@@ -1,8 +1,8 @@
 -- The starred examples of document 01 as document 02 (c) changes them, those of a text without structure (document 02, f), of WUSS characters
--- (document 02, b) and of nodes of each kind (document 02, c), as rows of one list: what the definitions give, and what the documents say.
+-- (document 02, b), of nodes of each kind (document 02, c) and of areas in both orders (document 02, e), as rows of one list: what the definitions give, and what the documents say.
 use mathlib.Core.Path.{_≡_}
 use mathlib.Core.Bool.{Bool, true, false, cond}
-use mathlib.Core.List.{List, [], _∷_}
+use mathlib.Core.List.{List, [], _∷_, map}
 use Prim.Native.Nat.{ℕ, zero, suc}
 use lib.ListN.{take}
 use lib.IntN.{pos, negsuc}
@@ -15,12 +15,14 @@ use Rattle.tree.specs.declared.Tree.{Tree}
 use Rattle.stretch.specs.Stretch.{checkOf, partOf}
 use Rattle.seed.specs.Seed.{qs, ts}
 use Rattle.seed.specs.Tests.{paired}
+use Rattle.seed.specs.Area.{Box}
 use Rattle.seed.specs.AreaList.{bytesOf}
 use Rattle.seed.specs.declared.Pair.{Pair}
+use Rattle.area.specs.declared.Order.the-variants.{RisingA, Paper}
 use Rattle.best.specs.Best.{scratchNeeded}
 use Rattle.best.specs.declared.Best.{Best}
 use Rattle.chain.specs.State.{State}
-use Rattle.chain.specs.Acts.{Act, add, rescore, withdraw, bestChain, grounds, step, areasOf, deckOf}
+use Rattle.chain.specs.Acts.{Act, add, rescore, withdraw, bestChain, grounds, step, areasOf, areasIn, deckOf}
 use Rattle.chain.specs.Opening.{opening, deckOpening}
 use Rattle.chain.specs.Looking.{bestBy, keyIn}
 
@@ -196,6 +198,32 @@ ofEachKind =
     ∷ lists (totalAndChain twoWithdrawn) (4 ∷ 3 ∷ [])
     ∷ says (adding onPairAndDot (one 0 0)) (refused 25 (Seed 1))
     ∷ says (adding onPairAndDot (one 1 1)) accepted
+    ∷ []
+
+-- Areas in both orders (document 02, e). On `.(.).(.).` twice, the pairs (2,2) and (5,5) stand side by side under (7,7), with a gap on either side and
+-- one between. On `.(.(.).).` twice, (3,3) stands under (5,5), which stands under (7,7): each of the upper two has a left gap and a right one.
+abbrev pub sameTwice : List ℕ → List Pair → State
+sameTwice q ps = doing (opening q q .state) (add ps (pos 0))
+
+abbrev pub sideBySide : State
+sideBySide = sameTwice (bytes ".(.).(.).") (record { q = 2; t = 2 } ∷ two 5 5 7 7)
+
+abbrev pub oneInAnother : State
+oneInAnother = sameTwice (bytes ".(.(.).).") (record { q = 3; t = 3 } ∷ two 5 5 7 7)
+
+-- Where the areas begin in Q.
+abbrev pub beginnings : List Box → List ℕ
+beginnings xs = map (λ (x : Box). x .a) xs
+
+abbrev pub inPaperOrder : List Example
+inPaperOrder =
+    lists (beginnings (areasIn Paper sideBySide 1)) (1 ∷ 4 ∷ 6 ∷ 3 ∷ 0 ∷ [])
+    ∷ lists (beginnings (areasIn RisingA sideBySide 1)) (0 ∷ 1 ∷ 3 ∷ 4 ∷ 6 ∷ [])
+    ∷ lists (bytesOf (areasIn Paper sideBySide 1)) (1 ∷ 1 ∷ 1 ∷ 1 ∷ 4 ∷ 4 ∷ 4 ∷ 4 ∷ 6 ∷ 6 ∷ 6 ∷ 6 ∷ 3 ∷ 3 ∷ 3 ∷ 3 ∷ 0 ∷ 0 ∷ 0 ∷ 0 ∷ [])
+    ∷ lists (beginnings (areasIn Paper oneInAnother 1)) (2 ∷ 4 ∷ 1 ∷ 6 ∷ 0 ∷ [])
+    ∷ lists (beginnings (areasIn RisingA oneInAnother 1)) (0 ∷ 1 ∷ 2 ∷ 4 ∷ 6 ∷ [])
+    -- Document 01's two areas are under one pair each, and stand alike in both orders.
+    ∷ lists (bytesOf (areasIn Paper (doing onAB (add (two 3 1 5 4) (pos 0))) 1)) (0 ∷ 2 ∷ 0 ∷ 0 ∷ 4 ∷ 4 ∷ 2 ∷ 3 ∷ [])
     ∷ []
 
 -- Each holds: the two are the same.

@@ -70,7 +70,7 @@ CallSays s (rescore k z) =
     then GivenIf (¬ InRange z) 11 (Seed k)
     then CountSays s
 CallSays s (bestChain room) = GivenIf (room < scratchNeeded) 21 Nothing
-CallSays s (listAreas k room) =
+CallSays s (listAreas order k room) =
     NumberSays s k
     then GivenIf (room < length (areasOf s k) * 4) 22 Nothing
 CallSays s (writeDeck room) = GivenIf (room < length (deckOf s)) 22 Nothing

@@ -5,6 +5,7 @@ use Prim.Native.Nat.{ℕ}
 use lib.ListN.{length}
 use Rattle.answer.specs.declared.Answer.{Answer}
 use Rattle.area.specs.declared.Listed.{Listed}
+use Rattle.area.specs.declared.Order.{Order}
 use Rattle.best.specs.declared.Best.{Best}
 use Rattle.write.specs.declared.Written.{Written}
 use Rattle.chain.specs.Acts.{Act, bestChain, listAreas, writeDeck, showRow}
@@ -18,7 +19,7 @@ use Rattle.demand.specs.History.{Event, event}
 -- A call that hands over no session kept its own promise and answered so.
 pub data Looked (s : Session) : Act → Answer → Type 0 where
   chained : {before after : List ℕ} {r : Best} → Chains (view s) before after r → Looked s (bestChain (length before)) (r .answer)
-  listed : {before after : List ℕ} {r : Listed} (k : ℕ) → Lists (view s) k before after r → Looked s (listAreas k (length before)) (r .answer)
+  listed : {before after : List ℕ} {r : Listed} (order : Order) (k : ℕ) → Lists (view s) order k before after r → Looked s (listAreas order k (length before)) (r .answer)
   written : {before after : List ℕ} {r : Written} → Writes (view s) before after r → Looked s (writeDeck (length before)) (r .answer)
   shown : {r : Shown} (k : ℕ) → r ≡ shownOf (view s) k → Looked s (showRow k) (r .answer)
 

@@ -22,7 +22,8 @@ use Rattle.judge.proofs.JudgeSteps.{last-node-at, spans-in, paired-in, 
 use Rattle.judge.specs.inner.Steps.{Cut, UnderLast, Joined, Joins, Reaching, Past, Climbing, Passed}
 use Rattle.judge.specs.inner.Steps.Joined.{whole, broken}
 use Rattle.judge.specs.inner.Steps.Passed.{fine, bare}
-use Rattle.judge.proofs.Rising.{at-in, in-at, ups-most}
+use Rattle.seed.proofs.Lists.{at-in, in-at}
+use Rattle.judge.proofs.Rising.{ups-most}
 use Rattle.judge.proofs.Tops.{never, tops-skip, tops-put}
 
 -- A scan for a subtree that starts early enough.

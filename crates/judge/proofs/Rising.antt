@@ -11,22 +11,9 @@ use Rattle.tree.proofs.Leaves.{lt-or-le}
 use Rattle.seed.specs.Seed.{_∈_, Rising}
 use Rattle.seed.specs.Tests.{rises}
 use Rattle.seed.proofs.Trees.{own}
+use Rattle.seed.proofs.Lists.{at-in}
 use Rattle.seed.proofs.SeedTest.{tells-rises}
 use Rattle.judge.specs.inner.Steps.{Ups, Cut}
-
--- What stands at a place is one of the list, and each of the list stands at a place.
-pub at-in : (xs : List ℕ) (k : ℕ) → k < length xs → getD xs k 0 ∈ xs
-at-in [] k h = absurd (omega arith)
-at-in (x ∷ xs) zero h = List·Memᴰ·head refl
-at-in (x ∷ xs) (suc k) h = List·Memᴰ·tail (at-in xs k (omega arith))
-
-pub in-at : (xs : List ℕ) (y : ℕ) → y ∈ xs → (j : ℕ) × (j < length xs) × (getD xs j 0 ≡ y)
-in-at [] y m = elim m [ ]
-in-at (x ∷ xs) y m =
-    elim (List·Memᴰ·cases-cons m) [
-      | inl e ↦ (0, omega arith, sym e)
-      | inr n ↦ let w = in-at xs y n in (suc (w .0), omega (arith, w .1), w .2)
-    ]
 
 -- A rising list rises by its places.
 ups-of : (xs : List ℕ) → Rising xs → Ups (length xs) xs

@@ -5,7 +5,7 @@ use Rattle.area.proofs.areas.Statement.{statement}
 use Rattle.area.proofs.areas.Tie as tie
 
 returns : tie.Need-returns
-returns c = let start = c .before .before in listed-none (start .args .q) (start .args .t) (start .args .t3) _ _ (c .if1 .taken)
+returns c = let start = c .before .before in listed-none (start .args .q) (start .args .t) (start .args .t3) _ (start .args .order) _ (c .if1 .taken)
 
 nodes-of-requires : tie.Need-nodes-of-requires
 nodes-of-requires c κs = search needs
@@ -27,7 +27,7 @@ returns-2 c =
     let second = c .before .before .before .before in
     let first = second .before .before .before .before .before in
     let start = first .before .before .before .before .before .before .before .before in
-    listed-there _ _ _ _ (start .pre) (first .before .before .before .before .before .before .if1 .left) (first .nodes-of .ensures) (second .nodes-of2 .ensures) (c .before .before .areas-of .ensures)
+    listed-there _ _ _ _ (start .pre) (first .before .before .before .before .before .before .if1 .left) (first .nodes-of .ensures) (second .nodes-of2 .ensures) (start .args .order) (c .before .before .areas-of .ensures)
 
 pub areas-spec : {M : Type 1} → statement M
 areas-spec =

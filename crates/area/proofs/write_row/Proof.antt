@@ -21,7 +21,9 @@ begins-requires : tie.Need-begins-requires
 begins-requires c κs = search needs
 
 returns : tie.Need-returns
-returns c = row-skipped _ _ _ _ (c .before .before .first-like .ensures) _ _ (sym (c .before .begins .ensures) ∙ not-true _ (c .if1 .taken))
+returns c =
+    let start = c .before .before .before .before .before .before .before in
+    row-skipped _ _ _ _ (c .before .before .first-like .ensures) (start .pre .3) (sym (c .before .begins .ensures) ∙ not-true _ (c .if1 .taken))
 
 mul-last-like : tie.Need-mul-last-like
 mul-last-like c = let u = begins-in _ _ _ _ (sym (c .before .begins .ensures) ∙ not-false _ (c .if1 .left)) in omega arith
@@ -58,26 +60,20 @@ cast-t20 c = let begun = c .before .before .before .before in
     let v = small-last _ _ _ (c .last-like2 .ensures) (omega arith) in
     omega arith
 
-mul-put-word : tie.Need-mul-put-word
-mul-put-word c = search needs
-
 slice-aggregate-put-word : tie.Need-slice-aggregate-put-word
 slice-aggregate-put-word c = search needs
 
 put-word-requires : tie.Need-put-word-requires
 put-word-requires c κs = search needs
 
-add-result : tie.Need-add-result
-add-result c = search needs
-
 same-length : tie.Need-same-length
 same-length c = search needs
 
 returns-2 : tie.Need-returns-2
-returns-2 c = let last = c .before .before .before .before .before in
+returns-2 c =
+    let last = c .before .before .before .before .before in
     let begun = last .before .before .before .before in
-    let room = begun .before .before .before .before .before .before .before .pre .4 in
-    row-written _ _ _ _ (begun .before .before .first-like .ensures) (sym (begun .before .begins .ensures) ∙ not-false _ (begun .if1 .left)) _ _ _ _ _ (last .before .before .last-like .ensures) (last .last-like2 .ensures) room (c .before .before .put-word .ensures)
+    row-written _ _ _ _ (begun .before .before .first-like .ensures) (sym (begun .before .begins .ensures) ∙ not-false _ (begun .if1 .left)) _ _ (last .before .before .last-like .ensures) (last .last-like2 .ensures) (c .before .before .put-word .ensures)
 
 pub write-row-spec : {M : Type 1} → statement M
 write-row-spec =
@@ -98,9 +94,7 @@ write-row-spec =
     cast-t18
     cast-t19
     cast-t20
-    mul-put-word
     slice-aggregate-put-word
     put-word-requires
-    add-result
     same-length
     returns-2)

@@ -1,33 +1,16 @@
 -- `chain::Session::areas` meets its contract.
-use borrow.Author.Tests.{not-true, not-false}
-use Rattle.answer.proofs.Given.{tested}
-use Rattle.chain.proofs.Judges.{given-out}
-use Rattle.chain.proofs.Looks.{lists, lists-not}
 use borrow.Author.Needs.{needs}
 use Rattle.chain.proofs.Session.areas.Statement.{statement}
 use Rattle.chain.proofs.Session.areas.Tie as tie
 
-given-out-requires : tie.Need-given-out-requires
-given-out-requires c κs = search needs
-
-refused-requires : tie.Need-refused-requires
-refused-requires c κs = search needs
-
-returns : tie.Need-returns
-returns c = rw (c .refused .ensures) (lists-not _ _ (not-true _ (tested (c .before .before .given-out .ensures) (c .before .if1 .taken))) _)
-
-sub-areas : tie.Need-sub-areas
-sub-areas c = given-out _ _ (tested (c .before .given-out .ensures) (c .if1 .left)) .low
-
-areas-requires : tie.Need-areas-requires
-areas-requires c κs = search needs
+list-areas-requires : tie.Need-list-areas-requires
+list-areas-requires c κs = c .before .before .pre
 
 same-length : tie.Need-same-length
 same-length c = search needs
 
-returns-2 : tie.Need-returns-2
-returns-2 c = lists _ _ (not-false _ (tested (c .before .before .before .before .before .given-out .ensures) (c .before .before .before .before .if1 .left))) _ _ _ (c .before .before .areas .ensures)
+returns : tie.Need-returns
+returns c = c .before .before .list-areas .ensures
 
 pub areas-spec : {M : Type 1} → statement M
-areas-spec =
-    tie.close (tie.spec given-out-requires refused-requires returns sub-areas areas-requires same-length returns-2)
+areas-spec = tie.close (tie.spec list-areas-requires same-length returns)
