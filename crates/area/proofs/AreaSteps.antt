@@ -20,7 +20,7 @@ use Rattle.write.proofs.Wrote.{output-all, output-none}
 use Rattle.tree.proofs.Leaves.{lt-or-le}
 use Rattle.seed.specs.Area.{Box}
 use Rattle.seed.specs.AreaList.{firstBelow, lastBelow, column, boxAt, begins, boxRow, boxes, bytesOf}
-use Rattle.area.specs.inner.Gaps.{sameGap, like, meet, boxFrom, boxesBelow}
+use Rattle.area.specs.inner.Boxes.{sameGap, like, meet, boxFrom, boxesBelow}
 use Rattle.area.specs.Listed.{listedOf, ListedRight}
 
 -- Two gaps compared.

@@ -12,14 +12,15 @@ use Rattle.seed.specs.Tab.{tab}
 use Rattle.seed.specs.Seed.{Pattern, qs, ts}
 use Rattle.seed.specs.Area.{FitsAt}
 use Rattle.seed.specs.AreaList.{fits, areas}
-use Rattle.area.specs.inner.Gaps.{gap, sameGap, like, meet, boxesBelow}
+use Rattle.gap.specs.GapNumbers.{gap}
+use Rattle.area.specs.inner.Boxes.{sameGap, like, meet, boxesBelow}
 use Rattle.seed.specs.declared.Pair.{Pair}
 use Rattle.seed.proofs.Tabs.{length-tab, getD-tab}
 use Rattle.answer.specs.Tells.{Tells}
 use Rattle.answer.proofs.Tells.{tells-eq, tells-as, tells-and, tells-not}
 use Rattle.seed.proofs.Sides.{tells-fits}
 use Rattle.seed.proofs.Areas.{bound}
-use Rattle.area.proofs.Gaps.{gap-fits}
+use Rattle.gap.proofs.GapFits.{gap-fits}
 
 -- In a list of n numbers, those past the last are read as 0.
 within : (n : ℕ) (f : ℕ → ℕ) (i : ℕ) → getD (tab n f) i 0 ≢ 0 → i < n

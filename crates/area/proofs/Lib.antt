@@ -1,6 +1,4 @@
-pub mod Gaps
 pub mod GapLists
-pub mod GapSteps
 pub mod AreaSteps
 pub mod AreaParts
 pub mod Walks

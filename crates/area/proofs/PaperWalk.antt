@@ -27,9 +27,10 @@ use Rattle.seed.proofs.Children.{Edge, edge-child, edge-next}
 use Rattle.seed.proofs.Convex.{Same, in-side, side-down, crossing}
 use Rattle.seed.proofs.Areas.{areas-are, area-edges, fits-q, low-q}
 use Rattle.area.specs.PaperOrder.{those, nearest, areasUnder, areasInPaperOrder}
-use Rattle.area.specs.inner.Gaps.{gapFrom, gap, meet, boxFrom, boxesBelow}
+use Rattle.gap.specs.GapNumbers.{gapFrom, gap}
+use Rattle.area.specs.inner.Boxes.{meet, boxFrom, boxesBelow}
 use Rattle.area.specs.inner.Walk.{childBox, childBoxes, boxesUnder, boxesInOrder}
-use Rattle.area.proofs.Gaps.{gap-left, gap-in, above-gap}
+use Rattle.gap.proofs.GapFits.{gap-left, gap-in, above-gap}
 use Rattle.area.proofs.GapLists.{areas-meet}
 use Rattle.area.proofs.AreaSteps.{below-next}
 use Rattle.area.proofs.LaidLists.{those-append}

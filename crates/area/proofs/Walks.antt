@@ -15,7 +15,7 @@ use Rattle.tree.proofs.Leaves.{lt-or-le}
 use Rattle.seed.specs.Area.{Box}
 use Rattle.seed.specs.AreaList.{bytesOf}
 use Rattle.seed.proofs.Trees.{own}
-use Rattle.area.specs.inner.Gaps.{boxFrom, boxesBelow}
+use Rattle.area.specs.inner.Boxes.{boxFrom, boxesBelow}
 use Rattle.area.specs.inner.Walk.{childBox, childBoxes, boxesUnder, boxesInOrder, boxesBy, AsMany}
 use Rattle.area.specs.declared.Order.{Order}
 use Rattle.area.specs.declared.Order.the-variants.{RisingA, Paper}

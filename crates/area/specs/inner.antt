@@ -1,3 +1,3 @@
 -- What only the contracts of inner functions cite.
-pub mod Gaps
+pub mod Boxes
 pub mod Walk

@@ -1,14 +1,13 @@
-// The open areas of a seed. Each node is given the number of its gap once, by a scan of the seed's nodes in its tree; then two nodes fit
-// exactly if their gaps are the same and not 0, so that a pair of nodes costs one comparison. Below, g and h are the gaps of the nodes of Q
-// and of T, by their numbers.
+// The open areas of a seed. Each node is given the number of its gap once; then two nodes fit exactly if their gaps are the same and not 0, so that a
+// pair of nodes costs one comparison. Below, g and h are the gaps of the nodes of Q and of T, by their numbers.
 mod paper;
 
 use answer::Answer;
 use answer::Ground;
 use answer::Place;
 use answer::refused;
+use gap::gaps_of;
 use seed::pair_count;
-use seed::side;
 use table::Table;
 use table::nodes_of;
 use tree::Tree;
@@ -25,7 +24,7 @@ ghost use Rattle.seed.specs.AreaList as lists;
 ghost use Rattle.table.specs.Rows.{rowIn};
 ghost use Rattle.table.specs.Table.{rowsOf, Kept};
 ghost use Rattle.area.specs.PaperOrder.{areasBy};
-ghost use Rattle.area.specs.inner.Gaps as gaps;
+ghost use Rattle.area.specs.inner.Boxes as boxes;
 ghost use Rattle.area.specs.inner.Walk as walk;
 ghost use Rattle.area.specs.Listed.{ListedRight};
 
@@ -41,54 +40,9 @@ pub struct Listed {
     pub count: usize,
 }
 
-// What a node on the left or on the right of another counts.
-fn weight(side: u8) -> usize
-    ensures { λ r. ⌜ r ≡ gaps.weight side ⌝ }
-{
-    if side == 0 {
-        return 256;
-    }
-    1
-}
-
-// The gap of node i among the nodes of a seed, which rise: how many lie left of it, and how many right of it before the nearest above it.
-fn gap(l: &[u8], nodes: &[u8], i: usize) -> usize
-    requires { ⌜ length (now nodes) ≤ 256 ⌝ }
-    ensures { λ r. ⌜ r ≡ gaps.gap (now (l .entry)) (now (nodes .entry)) i ⌝ }
-{
-    let mut gap = 1;
-    let mut k = 0;
-    while k < nodes.len() {
-        let side = side(l, nodes[k] as usize, i);
-        if side == 3 {
-            return 0;
-        }
-        if side == 2 {
-            return gap;
-        }
-        gap += weight(side);
-        k += 1;
-    }
-    0
-}
-
-// The gaps of all nodes of a tree.
-fn gaps_of(l: &[u8], nodes: &[u8]) -> [usize; 256]
-    requires { ⌜ (length (now l) ≤ 256) × (length (now nodes) ≤ 256) ⌝ }
-    ensures { λ r. ⌜ r ≡ gaps.filled (gaps.gap (now (l .entry)) (now (nodes .entry))) (length (now (l .entry))) ⌝ }
-{
-    let mut all: [usize; 256] = [0; 256];
-    let mut i = 0;
-    while i < l.len() {
-        all[i] = gap(l, nodes, i);
-        i += 1;
-    }
-    all
-}
-
 // Whether nodes with these gaps fit.
 fn meets(x: usize, y: usize) -> bool
-    ensures { λ r. ⌜ r ≡ gaps.sameGap x y ⌝ }
+    ensures { λ r. ⌜ r ≡ boxes.sameGap x y ⌝ }
 {
     if x != y {
         return false;
@@ -98,7 +52,7 @@ fn meets(x: usize, y: usize) -> bool
 
 // The first node that fits one whose gap is x, or how many nodes there are if none does.
 fn first_like(x: usize, g: &[usize]) -> usize
-    ensures { λ r. ⌜ r ≡ firstBelow (gaps.like x (now (g .entry))) (length (now (g .entry))) ⌝ }
+    ensures { λ r. ⌜ r ≡ firstBelow (boxes.like x (now (g .entry))) (length (now (g .entry))) ⌝ }
 {
     let mut i = 0;
     while i < g.len() {
@@ -112,7 +66,7 @@ fn first_like(x: usize, g: &[usize]) -> usize
 
 // The last node that fits one whose gap is x, or 0 if none does.
 fn last_like(x: usize, g: &[usize]) -> usize
-    ensures { λ r. ⌜ r ≡ lastBelow (gaps.like x (now (g .entry))) (length (now (g .entry))) ⌝ }
+    ensures { λ r. ⌜ r ≡ lastBelow (boxes.like x (now (g .entry))) (length (now (g .entry))) ⌝ }
 {
     let mut k = g.len();
     while 0 < k {
@@ -127,7 +81,7 @@ fn last_like(x: usize, g: &[usize]) -> usize
 // Whether an area begins at node a of Q, the first node of T that fits it being c.
 fn begins(g: &[usize], h: &[usize], a: usize, c: usize) -> bool
     requires { ⌜ a < length (now g) ⌝ }
-    ensures { λ r. ⌜ r ≡ lists.begins (gaps.meet (now (g .entry)) (now (h .entry))) (length (now (h .entry))) a c ⌝ }
+    ensures { λ r. ⌜ r ≡ lists.begins (boxes.meet (now (g .entry)) (now (h .entry))) (length (now (h .entry))) a c ⌝ }
 {
     if h.len() <= c {
         return false;
@@ -141,7 +95,7 @@ fn begins(g: &[usize], h: &[usize], a: usize, c: usize) -> bool
 // How many areas begin at node a of Q: one or none.
 fn count_row(g: &[usize], h: &[usize], a: usize) -> usize
     requires { ⌜ a < length (now g) ⌝ }
-    ensures { λ r. ⌜ r ≡ length (gaps.boxFrom (now (g .entry)) (now (h .entry)) a) ⌝ }
+    ensures { λ r. ⌜ r ≡ length (boxes.boxFrom (now (g .entry)) (now (h .entry)) a) ⌝ }
 {
     let c = first_like(g[a], h);
     if begins(g, h, a, c) {
@@ -153,7 +107,7 @@ fn count_row(g: &[usize], h: &[usize], a: usize) -> usize
 // How many areas there are.
 fn count(g: &[usize], h: &[usize]) -> usize
     requires { ⌜ length (now g) ≤ 256 ⌝ }
-    ensures { λ r. ⌜ r ≡ length (gaps.boxesBelow (now (g .entry)) (now (h .entry)) (length (now (g .entry)))) ⌝ }
+    ensures { λ r. ⌜ r ≡ length (boxes.boxesBelow (now (g .entry)) (now (h .entry)) (length (now (g .entry)))) ⌝ }
 {
     let mut count = 0;
     let mut a = 0;
@@ -166,8 +120,8 @@ fn count(g: &[usize], h: &[usize]) -> usize
 
 // Writes the area that begins at node a of Q, if one does, from a place of the output on, and answers the place behind it.
 fn write_row(g: &[usize], h: &[usize], out: &mut [u8], a: usize, at: usize) -> usize
-    requires { ⌜ (a < length (now g)) × (length (now g) ≤ 256) × (length (now h) ≤ 256) × Room (bytesOf (gaps.boxFrom (now g) (now h) a)) at (now out) ⌝ }
-    ensures { λ r. ⌜ Puts (bytesOf (gaps.boxFrom (now (g .entry)) (now (h .entry)) a)) at (now (out .entry)) (now (out .exit)) r ⌝ }
+    requires { ⌜ (a < length (now g)) × (length (now g) ≤ 256) × (length (now h) ≤ 256) × Room (bytesOf (boxes.boxFrom (now g) (now h) a)) at (now out) ⌝ }
+    ensures { λ r. ⌜ Puts (bytesOf (boxes.boxFrom (now (g .entry)) (now (h .entry)) a)) at (now (out .entry)) (now (out .exit)) r ⌝ }
 {
     let c = first_like(g[a], h);
     if !begins(g, h, a, c) {
@@ -181,8 +135,8 @@ fn write_row(g: &[usize], h: &[usize], out: &mut [u8], a: usize, at: usize) -> u
 
 // Writes all areas by rising a.
 fn write(g: &[usize], h: &[usize], out: &mut [u8])
-    requires { ⌜ (length (now g) ≤ 256) × (length (now h) ≤ 256) × Room (bytesOf (gaps.boxesBelow (now g) (now h) (length (now g)))) 0 (now out) ⌝ }
-    ensures { λ r. ⌜ now (out .exit) ≡ sets (now (out .entry)) 0 (bytesOf (gaps.boxesBelow (now (g .entry)) (now (h .entry)) (length (now (g .entry))))) ⌝ }
+    requires { ⌜ (length (now g) ≤ 256) × (length (now h) ≤ 256) × Room (bytesOf (boxes.boxesBelow (now g) (now h) (length (now g)))) 0 (now out) ⌝ }
+    ensures { λ r. ⌜ now (out .exit) ≡ sets (now (out .entry)) 0 (bytesOf (boxes.boxesBelow (now (g .entry)) (now (h .entry)) (length (now (g .entry))))) ⌝ }
 {
     let mut at = 0;
     let mut a = 0;
@@ -237,11 +191,11 @@ fn areas_of<'a>(
     let k = pair_count(qs, ts);
     let n = q.n;
     let m = t.n;
-    let lq = q.left;
-    let lt = t.left;
-    let g = gaps_of(&lq[..n], &qs[..k]);
-    let h = gaps_of(&lt[..m], &ts[..k]);
-    list(&lq[..n], &qs[..k], &g[..n], &h[..m], order, out)
+    let l = q.left;
+    let gaps = gaps_of(q, t, qs, ts);
+    let g = gaps.q;
+    let h = gaps.t;
+    list(&l[..n], &qs[..k], &g[..n], &h[..m], order, out)
 }
 
 // Lists the open areas of the seed at a place of a table, present or not: none if there is no such seed.

@@ -4,7 +4,7 @@ use Prim.Native.Nat.{_≤_, _-_}
 use native.Mathlib.Omega.{arith}
 use lib.ListN.{length}
 use borrow.Author.Needs.{needs}
-use Rattle.area.specs.inner.Gaps.{boxesBelow}
+use Rattle.area.specs.inner.Boxes.{boxesBelow}
 use Rattle.area.proofs.AreaSteps.{count-none, count-room, count-next, count-all}
 use Rattle.area.proofs.count.Statement.{statement}
 use Rattle.area.proofs.count.Tie as tie

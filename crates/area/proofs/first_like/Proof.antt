@@ -5,7 +5,7 @@ use native.Mathlib.Omega.{arith}
 use lib.ListN.{length}
 use borrow.Author.Needs.{needs}
 use Rattle.seed.specs.AreaList.{firstBelow}
-use Rattle.area.specs.inner.Gaps.{like}
+use Rattle.area.specs.inner.Boxes.{like}
 use Rattle.area.proofs.AreaSteps.{like-is}
 use Rattle.seed.proofs.Below.{first-start, first-next, first-found, first-end}
 use Rattle.area.proofs.first_like.Statement.{statement}

@@ -5,7 +5,7 @@ use native.Mathlib.Omega.{arith}
 use lib.ListN.{length}
 use borrow.Author.Needs.{needs}
 use Rattle.seed.specs.AreaList.{lastBelow}
-use Rattle.area.specs.inner.Gaps.{like}
+use Rattle.area.specs.inner.Boxes.{like}
 use Rattle.area.proofs.AreaSteps.{like-is}
 use Rattle.seed.proofs.Below.{last-found, last-next, last-none}
 use Rattle.area.proofs.last_like.Statement.{statement}

@@ -4,7 +4,7 @@ use native.Mathlib.Omega.{arith}
 use lib.ListN.{length}
 use Rattle.write.specs.Puts.{Puts}
 use Rattle.seed.specs.AreaList.{bytesOf}
-use Rattle.area.specs.inner.Gaps.{boxesBelow}
+use Rattle.area.specs.inner.Boxes.{boxesBelow}
 use Rattle.area.proofs.AreaSteps.{write-start, write-length, write-room, write-next, write-all}
 use Rattle.area.proofs.write.Statement.{statement}
 use Rattle.area.proofs.write.Tie as tie

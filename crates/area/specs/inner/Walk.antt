@@ -7,7 +7,7 @@ use lib.ListN.{length, getD}
 use lib.Dec.{eqb, leb}
 use Rattle.tree.specs.Nested.{leaf, Nested}
 use Rattle.seed.specs.Area.{Box}
-use Rattle.area.specs.inner.Gaps.{boxFrom, boxesBelow}
+use Rattle.area.specs.inner.Boxes.{boxFrom, boxesBelow}
 use Rattle.area.specs.declared.Order.{Order}
 use Rattle.area.specs.declared.Order.the-variants.{RisingA, Paper}
 

@@ -11,7 +11,7 @@ use borrow.Author.Tests.{eq-eqb, ne-eqb}
 use Rattle.tree.proofs.Leaves.{lt-or-le}
 use Rattle.seed.specs.Tab.{tab}
 use Rattle.seed.specs.AreaList.{side}
-use Rattle.area.specs.inner.Gaps.{weight, gapFrom, gap, filled}
+use Rattle.gap.specs.GapNumbers.{weight, gapFrom, gap, filled}
 use Rattle.seed.proofs.Tabs.{length-tab, tab-more}
 
 pub weight-left : (n : ℕ) → n ≡ 0 → weight n ≡ 256

@@ -12,7 +12,7 @@ use Rattle.tree.specs.Nested.{leaf, Above, Nested}
 use Rattle.seed.specs.Seed.{_∈_, Agree, Mapping, Rising, Pattern, qs, ts, qOf, tOf, lastPair}
 use Rattle.seed.specs.Area.{FitsAt}
 use Rattle.seed.specs.AreaList.{side, on-left, on-right, on-top, in-subtree}
-use Rattle.area.specs.inner.Gaps.{weight, gapFrom, gap}
+use Rattle.gap.specs.GapNumbers.{weight, gapFrom, gap}
 use Rattle.seed.specs.Pairs.{pairOf}
 use Rattle.seed.specs.declared.Pair.{Pair}
 use Rattle.seed.proofs.Trees.{own, nest}

@@ -1,12 +1,12 @@
--- `area::gap` meets its contract: the gap is that of the nodes to come, with what is counted before them.
+-- `gap::gap` meets its contract: the gap is that of the nodes to come, with what is counted before them.
 use mathlib.Core.Path.{sym}
 use Prim.Native.Nat.{_≤_, _-_}
 use native.Mathlib.Omega.{arith}
 use lib.ListN.{length}
 use borrow.Author.Needs.{needs}
-use Rattle.area.proofs.GapSteps.{Counted, count-start, count-inside, count-above, count-on, count-end, weight-most}
-use Rattle.area.proofs.gap.Statement.{statement}
-use Rattle.area.proofs.gap.Tie as tie
+use Rattle.gap.proofs.GapSteps.{Counted, count-start, count-inside, count-above, count-on, count-end, weight-most}
+use Rattle.gap.proofs.gap.Statement.{statement}
+use Rattle.gap.proofs.gap.Tie as tie
 
 abbrev Inv-loop : tie.InvT-loop
 Inv-loop l nodes i gap₀ k₀ gap k = (k ≤ length nodes) × Counted l nodes i k gap

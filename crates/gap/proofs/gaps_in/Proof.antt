@@ -1,13 +1,13 @@
--- `area::gaps_of` meets its contract: the gaps of the nodes below i are written.
+-- `gap::gaps_in` meets its contract: the gaps of the nodes below i are written.
 use mathlib.Core.Path.{_≡_}
 use Prim.Native.Nat.{_≤_, _-_}
 use native.Mathlib.Omega.{arith}
 use lib.ListN.{length}
 use borrow.Author.Needs.{needs}
-use Rattle.area.specs.inner.Gaps.{gap, filled}
-use Rattle.area.proofs.GapSteps.{fill-start, fill-next, fill-end}
-use Rattle.area.proofs.gaps_of.Statement.{statement}
-use Rattle.area.proofs.gaps_of.Tie as tie
+use Rattle.gap.specs.GapNumbers.{gap, filled}
+use Rattle.gap.proofs.GapSteps.{fill-start, fill-next, fill-end}
+use Rattle.gap.proofs.gaps_in.Statement.{statement}
+use Rattle.gap.proofs.gaps_in.Tie as tie
 
 abbrev Inv-loop : tie.InvT-loop
 Inv-loop l nodes all₀ i₀ all i = (i ≤ length l) × (all ≡ filled (gap l nodes) i)
@@ -39,8 +39,8 @@ loop-again c = (omega arith, fill-next _ _ _ _ (omega arith) (c .before .before 
 returns : tie.Need-returns Inv-loop μ-loop
 returns c = fill-end _ _ _ _ (c .before .loop .inv .1) (omega arith)
 
-pub gaps-of-spec : {M : Type 1} → statement M
-gaps-of-spec =
+pub gaps-in-spec : {M : Type 1} → statement M
+gaps-in-spec =
     tie.close
     (tie.spec
     Inv-loop

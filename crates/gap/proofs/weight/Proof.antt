@@ -1,8 +1,8 @@
--- `area::weight` meets its contract.
+-- `gap::weight` meets its contract.
 use mathlib.Core.Path.{sym}
-use Rattle.area.proofs.GapSteps.{weight-left, weight-right}
-use Rattle.area.proofs.weight.Statement.{statement}
-use Rattle.area.proofs.weight.Tie as tie
+use Rattle.gap.proofs.GapSteps.{weight-left, weight-right}
+use Rattle.gap.proofs.weight.Statement.{statement}
+use Rattle.gap.proofs.weight.Tie as tie
 
 returns : tie.Need-returns
 returns c = sym (weight-left _ (c .if1 .taken))

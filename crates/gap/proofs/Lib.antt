@@ -1,0 +1,3 @@
+pub mod GapFits
+pub mod GapSteps
+pub mod GapParts
