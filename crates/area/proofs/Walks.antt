@@ -105,20 +105,29 @@ module _ (l nodes g h : List ℕ) (k : ℕ) where
   unfolding boxesInOrder flatMap bytesOf
   order-end u = rw (drop-of-length-le nodes u)
 
--- Writing the boxes in order, with those of the nodes from place k on left.
-abbrev pub NodesLeft : (l nodes g h o₀ : List ℕ) → ℕ → ℕ → List ℕ → Type 0
-NodesLeft l nodes g h o₀ k at o = Left (bytesOf (boxesInOrder l nodes g h)) 0 o₀ (bytesOf (boxesInOrder l (drop k nodes) g h)) at o
+-- Writing the boxes in order, with those of the last nodes left, so many.
+pub record NodesLeft (l nodes g h o₀ : List ℕ) (left at : ℕ) (o : List ℕ) : Type 0 where
+  pub few : left ≤ length nodes
+  pub rest : Left (bytesOf (boxesInOrder l nodes g h)) 0 o₀ (bytesOf (boxesInOrder l (drop (length nodes - left) nodes) g h)) at o
 
-module _ (l nodes g h : List ℕ) {o₀ : List ℕ} (room : Room (bytesOf (boxesInOrder l nodes g h)) 0 o₀) (k : ℕ) {at : ℕ} {o : List ℕ} (p : NodesLeft l nodes g h o₀ k at o) where
-  module _ (u : k < length nodes) where
-    pub node-room : Room (bytesOf (boxesUnder l g h (getD nodes k 0))) at o
-    node-room = room-first (left-room p room) _ (order-next l nodes g h k u)
+pub nodes-all : (l nodes g h : List ℕ) {o : List ℕ} → NodesLeft l nodes g h o (length nodes) 0 o
+nodes-all l nodes g h = let z : length nodes - length nodes ≡ 0 = omega arith in record { few = omega arith; rest = rw z left-all }
 
-    pub node-written : {after : List ℕ} {next : ℕ} → Puts (bytesOf (boxesUnder l g h (getD nodes k 0))) at o after next → NodesLeft l nodes g h o₀ (k + 1) next after
-    node-written = left-less p room (order-next l nodes g h k u)
+module _ {l nodes g h o₀ : List ℕ} (room : Room (bytesOf (boxesInOrder l nodes g h)) 0 o₀) {left at : ℕ} {o : List ℕ} (p : NodesLeft l nodes g h o₀ left at o) where
+  module _ (u : 0 < left) where
+    pub node-place : length nodes - left < length nodes
+    node-place = omega (arith, p .few)
 
-  pub nodes-written : length nodes ≤ k → o ≡ sets o₀ 0 (bytesOf (boxesInOrder l nodes g h))
-  nodes-written u = puts-output room (left-none p room (order-end l nodes g h k u))
+    pub node-room : Room (bytesOf (boxesUnder l g h (getD nodes (length nodes - left) 0))) at o
+    node-room = room-first (left-room (p .rest) room) _ (order-next l nodes g h (length nodes - left) node-place)
+
+    pub node-written : {after : List ℕ} {next : ℕ} → Puts (bytesOf (boxesUnder l g h (getD nodes (length nodes - left) 0))) at o after next → NodesLeft l nodes g h o₀ (left - 1) next after
+    node-written put =
+        let z : length nodes - (left - 1) ≡ length nodes - left + 1 = omega (arith, p .few) in
+        record { few = omega (arith, p .few); rest = rw z (left-less (p .rest) room (order-next l nodes g h (length nodes - left) node-place) put) }
+
+  pub nodes-written : left ≤ 0 → o ≡ sets o₀ 0 (bytesOf (boxesInOrder l nodes g h))
+  nodes-written u = puts-output room (left-none (p .rest) room (order-end l nodes g h (length nodes - left) (omega arith)))
 
 -- ---- either order
 

@@ -23,17 +23,18 @@ fn write_child(g: &[usize], h: &[usize], out: &mut [u8], child: usize, a: usize,
 
 // Writes the areas under the pair whose node in Q is x: its children from right to left, each with its whole subtree passed at once, since the pairs
 // in there have had their turn.
-fn write_under(l: &[u8], g: &[usize], h: &[usize], out: &mut [u8], x: usize, at: usize) -> usize
-    requires { ⌜ walk.Trees (now l) (now g) (now h) × (x < length (now l)) × Room (bytesOf (walk.boxesUnder (now l) (now g) (now h) x)) at (now out) ⌝ }
+fn write_under(l: &[u8], g: &[usize], h: &[usize], out: &mut [u8], x: u8, at: usize) -> usize
+    requires { ⌜ walk.Trees (now l) (now g) (now h) × Room (bytesOf (walk.boxesUnder (now l) (now g) (now h) x)) at (now out) × (x < length (now l)) ⌝ }
     ensures { λ r. ⌜ Puts (bytesOf (walk.boxesUnder (now (l .entry)) (now (g .entry)) (now (h .entry)) x)) at (now (out .entry)) (now (out .exit)) r ⌝ }
 {
-    let low = leaf_at(l, x);
+    let low = leaf_at(l, x as usize);
     let mut next = at;
-    let mut end = x;
+    let mut end = x as usize;
     while low < end {
         let child = end - 1;
-        end = leaf_at(l, child);
-        next = write_child(g, h, out, child, end, next);
+        let a = leaf_at(l, child);
+        next = write_child(g, h, out, child, a, next);
+        end = a;
     }
     next
 }
@@ -44,9 +45,9 @@ pub fn write(l: &[u8], nodes: &[u8], g: &[usize], h: &[usize], out: &mut [u8])
     ensures { λ r. ⌜ now (out .exit) ≡ sets (now (out .entry)) 0 (bytesOf (walk.boxesInOrder (now (l .entry)) (now (nodes .entry)) (now (g .entry)) (now (h .entry)))) ⌝ }
 {
     let mut at = 0;
-    let mut k = 0;
-    while k < nodes.len() {
-        at = write_under(l, g, h, out, nodes[k] as usize, at);
-        k += 1;
+    let mut left = nodes.len();
+    while 0 < left {
+        at = write_under(l, g, h, out, nodes[nodes.len() - left], at);
+        left -= 1;
     }
 }

@@ -29,12 +29,12 @@ write-child-requires c κs =
     let loop = c .before .before .before in
     let start = loop .before .before .before .before .before .before in
     let trees = start .pre .0 in
-    let v = child-start (trees .tree) (start .pre .2) (loop .loop .inv) (loop .before .leaf-at .ensures) (c .before .before .loop-test .taken) (c .before .leaf-at2 .ensures) in (
-      omega (arith, start .pre .1, trees .same, loop .loop .inv .low, c .before .before .loop-test .taken),
-      omega (arith, start .pre .1, trees .same, loop .loop .inv .low, v),
+    let v = child-start (trees .tree) (start .pre .1) (loop .loop .inv) (loop .before .leaf-at .ensures) (c .before .before .loop-test .taken) (c .before .leaf-at2 .ensures) in (
+      omega (arith, start .pre .2, trees .same, loop .loop .inv .low, c .before .before .loop-test .taken),
+      omega (arith, start .pre .2, trees .same, loop .loop .inv .low, v),
       trees .few-g,
       trees .few-h,
-      child-room (trees .tree) (start .pre .2) (loop .loop .inv) (loop .before .leaf-at .ensures) (c .before .before .loop-test .taken) (c .before .leaf-at2 .ensures),
+      child-room (trees .tree) (start .pre .1) (loop .loop .inv) (loop .before .leaf-at .ensures) (c .before .before .loop-test .taken) (c .before .leaf-at2 .ensures),
     )
 
 loop-less : tie.Need-loop-less Inv-loop μ-loop
@@ -42,14 +42,15 @@ loop-less c =
     let leaves = c .before .before .before .before in
     let loop = leaves .before .before in
     let start = loop .before .before .before .before .before .before in
-    child-start (start .pre .0 .tree) (start .pre .2) (loop .loop .inv) (loop .before .leaf-at .ensures) (leaves .before .loop-test .taken) (leaves .leaf-at2 .ensures)
+    let less = child-start (start .pre .0 .tree) (start .pre .1) (loop .loop .inv) (loop .before .leaf-at .ensures) (leaves .before .loop-test .taken) (leaves .leaf-at2 .ensures) in
+    omega (arith, less, leaves .before .loop-test .taken)
 
 loop-again : tie.Need-loop-again Inv-loop μ-loop
 loop-again c =
     let leaves = c .before .before .before .before in
     let loop = leaves .before .before in
     let start = loop .before .before .before .before .before .before in
-    child-written (start .pre .0 .tree) (start .pre .2) (loop .loop .inv) (loop .before .leaf-at .ensures) (leaves .before .loop-test .taken) (leaves .leaf-at2 .ensures) (c .before .before .write-child .ensures)
+    child-written (start .pre .0 .tree) (start .pre .1) (loop .loop .inv) (loop .before .leaf-at .ensures) (leaves .before .loop-test .taken) (leaves .leaf-at2 .ensures) (c .before .before .write-child .ensures)
 
 same-length : tie.Need-same-length Inv-loop μ-loop
 same-length c = left-length (c .before .loop .inv .left)
@@ -58,7 +59,7 @@ returns : tie.Need-returns Inv-loop μ-loop
 returns c =
     let loop = c .before in
     let start = loop .before .before .before .before .before .before in
-    children-written (start .pre .0 .tree) (start .pre .2) (loop .loop .inv) (loop .before .leaf-at .ensures) (c .loop-test .left)
+    children-written (start .pre .0 .tree) (start .pre .1) (loop .loop .inv) (loop .before .leaf-at .ensures) (c .loop-test .left)
 
 pub write-under-spec : {M : Type 1} → statement M
 write-under-spec =
