@@ -1,7 +1,7 @@
 -- The walk over the children of each pair's node gives the areas in the paper's order of work: the areas under a pair begin where children of its node
 -- outside the span do.
 use mathlib.Core.Path.{_≡_, refl, sym, ap, subst, _∙_}
-use mathlib.Core.Bool.{Bool, true, false, cond, false≢true}
+use mathlib.Core.Bool.{Bool, true, false}
 use mathlib.Core.Logic.{_⊎_, inl, inr, _≢_}
 use mathlib.Core.List.{List, [], _∷_, _++_, append-nil, append-assoc, reverse, reverse-append, flatMap, List·Memᴰ·head, List·Memᴰ·tail, List·Memᴰ·cases-cons, Memᴰ·append-left, Memᴰ·append-right, Memᴰ·map, Memᴰ·of-map}
 use Prim.Native.Nat.{ℕ, zero, suc, _+_, _-_, _≤_, _<_}
@@ -15,8 +15,8 @@ use Rattle.tree.specs.Nested.{leaf, Above, In, Nested}
 use Rattle.tree.proofs.Leaves.{lt-or-le}
 use Rattle.seed.specs.Tab.{tab}
 use Rattle.seed.specs.Paths.{Child}
-use Rattle.seed.specs.Seed.{_∈_, Rising, Span, Pattern, qs, ts, qOf, lastNode, lastPair}
-use Rattle.seed.specs.Area.{Box, InBox, FitsAt, Area}
+use Rattle.seed.specs.Seed.{_∈_, Rising, Span, Pattern, qs, ts, qOf, lastPair}
+use Rattle.seed.specs.Area.{Box, FitsAt, Area}
 use Rattle.seed.specs.AreaList.{side, on-left, on-right, on-top, in-subtree, areas, firstBelow, boxAt, begins, boxRow, boxes}
 use Rattle.seed.specs.declared.Pair.{Pair}
 use Rattle.seed.proofs.Tabs.{length-tab, getD-tab}
@@ -24,8 +24,8 @@ use Rattle.seed.proofs.Trees.{own, nest}
 use Rattle.seed.proofs.Lists.{last-by}
 use Rattle.seed.proofs.Sides.{side-of, top-side}
 use Rattle.seed.proofs.Children.{Edge, edge-child, edge-next}
-use Rattle.seed.proofs.Convex.{Same, in-side, side-down, crossing}
-use Rattle.seed.proofs.Areas.{areas-are, area-edges, fits-q, low-q}
+use Rattle.seed.proofs.Convex.{Same, in-side, side-in, side-down, crossing}
+use Rattle.seed.proofs.Areas.{areas-are, area-edges, fits-q}
 use Rattle.area.specs.PaperOrder.{those, nearest, areasUnder, areasInPaperOrder}
 use Rattle.gap.specs.GapNumbers.{gapFrom, gap}
 use Rattle.area.specs.inner.Boxes.{meet, boxFrom, boxesBelow}
@@ -188,13 +188,7 @@ module _ {Q T : List ℕ} (tree-q : Nested Q) (tree-t : Nested T) (s : List Pair
               ]
 
           clear : (z : ℕ) → z ∈ qs s → side Q z c ≢ 3
-          clear z n e =
-              elim (side-of Q z c) [
-                | on-left f u ↦ omega arith
-                | on-right f u ↦ omega arith
-                | on-top f u ↦ omega arith
-                | in-subtree f u ↦ crossed (inr (z, n, (u, rw (last-by qOf refl s) (omega (arith, last-over c (omega (arith, own tree-q c)))))))
-              ]
+          clear z n e = crossed (inr (z, n, (side-in tree-q z c e, rw (last-by qOf refl s) (omega (arith, last-over c (omega (arith, own tree-q c)))))))
 
       module _ (free : gap Q (qs s) c ≢ 0) where
         unheld : (z : ℕ) → z ∈ qs s → ¬ In Q c z
@@ -210,13 +204,7 @@ module _ {Q T : List ℕ} (tree-q : Nested Q) (tree-t : Nested T) (s : List Pair
             (fits-q tree-q tree-t s seed k (k - 1) (y .c) fit (rw (last-by qOf refl s) (last-over (k - 1) (omega arith))) same)
           where
             clear : (z : ℕ) → z ∈ qs s → side Q z c ≢ 3
-            clear z n e =
-                elim (side-of Q z c) [
-                  | on-left f u ↦ omega arith
-                  | on-right f u ↦ omega arith
-                  | on-top f u ↦ omega arith
-                  | in-subtree f u ↦ unheld z n u
-                ]
+            clear z n e = unheld z n (side-in tree-q z c e)
 
             same : Same Q (qs s) k (k - 1)
             same z n =

@@ -1,5 +1,5 @@
 -- The parts of its memory that finding the gaps hands on: of trees that were read, and of lists that hold a seed.
-use mathlib.Core.Path.{_≡_, sym, ap, _∙_}
+use mathlib.Core.Path.{_≡_}
 use mathlib.Core.List.{List}
 use Prim.Native.Nat.{ℕ, _≤_}
 use native.Mathlib.Omega.{arith}

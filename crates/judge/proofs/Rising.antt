@@ -1,14 +1,14 @@
 -- Rising lists by their places, and where a number cuts them.
-use mathlib.Core.Path.{_≡_, refl, sym, ap}
+use mathlib.Core.Path.{_≡_, ap}
 use mathlib.Core.Bool.{true}
 use mathlib.Core.Logic.{inl, inr}
-use mathlib.Core.List.{List, [], _∷_, List·Memᴰ·head, List·Memᴰ·tail, List·Memᴰ·cases-cons}
+use mathlib.Core.List.{List, [], _∷_}
 use Prim.Native.Nat.{ℕ, zero, suc, _-_, _≤_, _<_}
 use native.Mathlib.Omega.{arith}
 use lib.ListN.{length, getD}
 use Rattle.tree.specs.Nested.{leaf, Nested}
 use Rattle.tree.proofs.Leaves.{lt-or-le}
-use Rattle.seed.specs.Seed.{_∈_, Rising}
+use Rattle.seed.specs.Seed.{Rising}
 use Rattle.seed.specs.Tests.{rises}
 use Rattle.seed.proofs.Trees.{own}
 use Rattle.seed.proofs.Lists.{at-in}
