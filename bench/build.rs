@@ -27,4 +27,5 @@ fn main() {
     println!("cargo:rerun-if-changed={}", directory.display());
     link(&directory, "report", "library");
     link(&directory, "test_scores", "score_library");
+    link(&directory, "test_areas", "area_library");
 }

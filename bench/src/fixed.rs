@@ -202,7 +202,7 @@ pub fn small_lists(visit: &mut dyn FnMut(&[u8])) {
     }
 }
 
-fn small_structures(longest: usize) -> Vec<Vec<u8>> {
+pub fn small_structures(longest: usize) -> Vec<Vec<u8>> {
     let mut texts = texts_over(b".()", longest);
     texts.retain(|text| read_tree(text).is_ok());
     texts

@@ -371,7 +371,7 @@ fn some_deck(random: &mut Random, draft: &Draft) -> Vec<u8> {
     encode(&draft.seeds, &places)
 }
 
-fn lay_out(random: &mut Random, draft: &Draft) -> Vec<u8> {
+pub fn lay_out(random: &mut Random, draft: &Draft) -> Vec<u8> {
     join(&draft.q, &draft.t, &some_deck(random, draft))
 }
 

@@ -1,5 +1,14 @@
 //! Compares the proved library with an independent implementation, and times both.
 
+mod area_calls;
+mod area_check;
+mod area_examples;
+mod area_families;
+mod area_inputs;
+mod area_library;
+mod area_mappings;
+mod area_times;
+mod areas;
 mod examples;
 mod families;
 mod fixed;
@@ -254,7 +263,7 @@ fn number(argument: Option<String>, default: u64) -> u64 {
         Some(Ok(number)) => number,
         Some(Err(_)) => {
             eprintln!(
-                "usage: gurandyo-bench [scores] [how many random inputs] [where the random numbers start], or lists"
+                "usage: gurandyo-bench [scores or areas] [how many random inputs] [where the random numbers start], or lists"
             );
             exit(2)
         }
@@ -266,6 +275,10 @@ fn main() {
     if arguments.next_if(|word| word == "scores").is_some() {
         let count = number(arguments.next(), 4_000_000) as usize;
         return score_check::run(count, number(arguments.next(), 1));
+    }
+    if arguments.next_if(|word| word == "areas").is_some() {
+        let count = number(arguments.next(), 20_000) as usize;
+        return area_check::run(count, number(arguments.next(), 1));
     }
     let mut checker = Checker::new();
     match checker.library {

@@ -13,7 +13,7 @@ pub fn report(input: &[u8]) -> Vec<u8> {
     }
 }
 
-fn check_seed(q: &Tree, t: &Tree, seed: &mut Seed, pairs: &[Pair]) -> Result<(), u8> {
+pub fn check_seed(q: &Tree, t: &Tree, seed: &mut Seed, pairs: &[Pair]) -> Result<(), u8> {
     let (first, last) = (pairs[0], pairs[pairs.len() - 1]);
     refuse_if(score_is_out_of_range(seed.score), 11)?;
     let (missing, unlike, falling) = faults(q, t, pairs);

@@ -130,7 +130,7 @@ pub enum Place {
 }
 
 pub struct Refusal {
-    ground: u8,
+    pub ground: u8,
     place: Place,
 }
 
@@ -154,9 +154,7 @@ pub fn open(
     input: &[u8],
     check: impl Fn(&Tree, &Tree, &mut Seed, &[Pair]) -> Result<(), u8>,
 ) -> Result<Session, Refusal> {
-    let input = &input[..input.len().min(INPUT_LIMIT)];
-    let (q_text, rest) = cut_line(input);
-    let (t_text, deck) = cut_line(rest);
+    let [q_text, t_text, deck] = parts_of(input);
     let q = read_tree(q_text).map_err(|(ground, at)| Refusal {
         ground,
         place: Place::Q(at),
@@ -171,6 +169,13 @@ pub fn open(
         check(&q, &t, seed, own).map_err(|ground| at_seed(ground, index + 1))?;
     }
     Ok(Session { q, t, seeds, pairs })
+}
+
+/// Q, T and the deck of an input.
+pub fn parts_of(input: &[u8]) -> [&[u8]; 3] {
+    let (q, rest) = cut_line(&input[..input.len().min(INPUT_LIMIT)]);
+    let (t, deck) = cut_line(rest);
+    [q, t, deck]
 }
 
 /// The part before the first line feed and the part after it; without one the rest is empty.
@@ -414,7 +419,7 @@ fn same_ancestry(q: &Tree, t: &Tree, a: &Pair, b: &Pair) -> bool {
 }
 
 /// Whether two pairs may stand together in a mapping.
-fn agree(q: &Tree, t: &Tree, a: &Pair, b: &Pair) -> bool {
+pub fn agree(q: &Tree, t: &Tree, a: &Pair, b: &Pair) -> bool {
     (a.q == b.q) == (a.t == b.t) && (a.q < b.q) == (a.t < b.t) && same_ancestry(q, t, a, b)
 }
 
