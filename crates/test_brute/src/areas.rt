@@ -1,10 +1,11 @@
 // The open areas that a seed's listing has, held to the definition: each fitting pair is in just one box, no other pair is in one, each box
-// is as large as can be, and they stand by rising a.
+// is as large as can be, and they stand by rising a; and whether another listing has the same boxes.
 use super::seeds::List;
 use super::seeds::Trees;
 use super::seeds::fits;
 use test_words::plain::fourfold;
 use test_words::plain::more;
+use test_words::plain::part;
 use test_words::plain::wide;
 use test_words::plain::within;
 
@@ -112,13 +113,39 @@ fn all_largest(trees: Trees, seed: List, boxes: &[u8], count: usize) -> bool {
     true
 }
 
-fn rises(boxes: &[u8], count: usize) -> bool {
+// Whether boxes stand by rising a.
+pub fn rises(boxes: &[u8], count: usize) -> bool {
     for k in 1..count {
         if number(boxes, fourfold(k)) <= number(boxes, fourfold(k - 1)) {
             return false;
         }
     }
     true
+}
+
+// The box at a place of a list.
+fn box_at(boxes: &[u8], k: usize) -> &[u8] {
+    part(boxes, fourfold(k), fourfold(more(k)))
+}
+
+// Whether a list has a box.
+fn has_box(boxes: &[u8], count: usize, wanted: &[u8]) -> bool {
+    for k in 0..count {
+        if check::same(box_at(boxes, k), wanted) {
+            return true;
+        }
+    }
+    false
+}
+
+// Whether each of so many boxes is in another list that is as long.
+pub fn same_boxes(boxes: &[u8], count: usize, others: &[u8]) -> bool {
+    for k in 0..count {
+        if !has_box(others, count, box_at(boxes, k)) {
+            return false;
+        }
+    }
+    boxes.len() == others.len()
 }
 
 // Whether these are the open areas of a seed, all of them.

@@ -16,7 +16,7 @@ pub struct Column {
     pub node: [u8; 4],
 }
 
-fn node(c: Column, k: usize) -> usize {
+pub fn node(c: Column, k: usize) -> usize {
     if k < 4 { c.node[k] as usize } else { 255 }
 }
 

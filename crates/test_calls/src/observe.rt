@@ -1,4 +1,5 @@
-// All that a session lets be seen: the best chain, the open areas and the row of each seed, and the deck.
+// All that a session lets be seen: the best chain, the open areas in both orders and the row of each seed, and the deck.
+use super::views::list;
 use best::SCRATCH;
 use chain::Session;
 use test_words::plain::part;
@@ -42,11 +43,11 @@ fn put_deck(session: Session, out: &mut [u8], at: usize) -> usize
     put_all(out, at, part(&deck, 0, written.length))
 }
 
-fn put_areas(session: Session, number: usize, out: &mut [u8], at: usize) -> usize
+fn put_areas(session: Session, number: usize, paper: bool, out: &mut [u8], at: usize) -> usize
     requires { ⌜ Sound session ⌝ }
 {
     let mut areas = [255u8; 1024];
-    session.areas(number, &mut areas);
+    list(session, number, paper, &mut areas);
     put_all(out, at, &areas)
 }
 
@@ -66,8 +67,9 @@ fn put_row(session: Session, number: usize, out: &mut [u8], at: usize) -> usize
 fn put_seed(session: Session, number: usize, out: &mut [u8], at: usize) -> usize
     requires { ⌜ Sound session ⌝ }
 {
-    let end = put_areas(session, number, out, at);
-    put_row(session, number, out, end)
+    let end = put_areas(session, number, false, out, at);
+    let last = put_areas(session, number, true, out, end);
+    put_row(session, number, out, last)
 }
 
 // The areas and the rows of the seeds 1 to 8.

@@ -2,6 +2,7 @@
 // should be.
 use super::redeal::redealt;
 use answer::Answer;
+use area::Listed;
 use best::Best;
 use best::SCRATCH;
 use chain::Session;
@@ -113,10 +114,20 @@ pub fn with_areas(t: Text, answer: Answer, count: usize, bytes: &[u8]) -> Text {
     }
 }
 
-fn areas_on(session: Session, number: usize, out: &mut [u8]) -> Text
+// The areas of a seed by rising a, or in the paper's order of work.
+pub fn list(session: Session, number: usize, paper: bool, out: &mut [u8]) -> Listed
     requires { ⌜ Sound session ⌝ }
 {
-    let listed = session.areas(number, out);
+    if paper {
+        return session.areas_in_paper_order(number, out);
+    }
+    session.areas(number, out)
+}
+
+fn areas_on(session: Session, number: usize, paper: bool, out: &mut [u8]) -> Text
+    requires { ⌜ Sound session ⌝ }
+{
+    let listed = list(session, number, paper, out);
     let answer = listed.answer;
     let end = fourfold(listed.count);
     let right = all_are(out, end, 170);
@@ -124,8 +135,8 @@ fn areas_on(session: Session, number: usize, out: &mut [u8]) -> Text
     remarked(text, right, b", more than the areas touched")
 }
 
-// areas NUMBER [ROOM]
-pub fn areas(session: Session, s: &[u8], at: usize) -> Text
+// areas NUMBER [ROOM], areas-paper NUMBER [ROOM]
+pub fn areas(session: Session, s: &[u8], at: usize, paper: bool) -> Text
     requires { ⌜ Sound session ⌝ }
 {
     let mut out = [170u8; 1024];
@@ -133,7 +144,7 @@ pub fn areas(session: Session, s: &[u8], at: usize) -> Text
     if 1024 < room {
         return blank();
     }
-    areas_on(session, number(s, at), &mut out[..room])
+    areas_on(session, number(s, at), paper, &mut out[..room])
 }
 
 pub fn with_deck(t: Text, answer: Answer, bytes: &[u8]) -> Text {

@@ -57,8 +57,8 @@ fn kept(session: Session, later: Session, s: &[u8], at: usize, text: Text) -> bo
     if !begins(text, b'r') {
         return true;
     }
-    let mut first = [0u8; 16384];
-    let mut second = [0u8; 16384];
+    let mut first = [0u8; 32768];
+    let mut second = [0u8; 32768];
     alike(session, later, &mut first, &mut second)
 }
 

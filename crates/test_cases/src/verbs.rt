@@ -64,6 +64,21 @@ fn without_session(s: &[u8], at: usize) -> Text {
     on_score(s, at)
 }
 
+// Whether the call lists areas, in one order or the other.
+fn lists(s: &[u8], at: usize) -> bool {
+    if check::same(word(s, at), b"areas") {
+        return true;
+    }
+    check::same(word(s, at), b"areas-paper")
+}
+
+fn listing(session: Session, s: &[u8], at: usize) -> Text
+    requires { ⌜ Sound session ⌝ }
+{
+    let paper = check::same(word(s, at), b"areas-paper");
+    views::areas(session, s, next(s, at), paper)
+}
+
 // A call that changes no session. The session's two texts stand at a place of their own.
 fn looking(session: Session, s: &[u8], at: usize, texts: usize) -> Text
     requires { ⌜ Sound session ⌝ }
@@ -72,8 +87,8 @@ fn looking(session: Session, s: &[u8], at: usize, texts: usize) -> Text
     if check::same(word(s, at), b"best") {
         return views::best(session, s, args);
     }
-    if check::same(word(s, at), b"areas") {
-        return views::areas(session, s, args);
+    if lists(s, at) {
+        return listing(session, s, at);
     }
     if check::same(word(s, at), b"deck") {
         return views::deck(session, s, args);

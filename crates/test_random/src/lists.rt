@@ -1,35 +1,15 @@
 // Random lists of pairs of two trees, drawn so that most pairs join nodes of one kind.
 use super::draw;
+use test_brute::lists::with_pair;
 use test_brute::nodes::Nodes;
 use test_brute::nodes::kind;
 use test_brute::nodes::parent;
-use test_brute::seeds::Column;
 use test_brute::seeds::List;
 use test_brute::seeds::Trees;
 use test_brute::seeds::no_pairs;
 use test_words::plain::less;
 use test_words::plain::more;
 use test_words::plain::plus;
-use test_words::plain::small;
-
-fn with_node(c: Column, i: usize) -> Column {
-    let at = c.count;
-    let mut next = c;
-    if at < 4 {
-        next.node[at] = small(i);
-        next.count = at + 1;
-    }
-    next
-}
-
-fn with_pair(l: List, i: usize, j: usize) -> List {
-    let q = l.q;
-    let t = l.t;
-    List {
-        q: with_node(q, i),
-        t: with_node(t, j),
-    }
-}
 
 // The first node from a place on that is of one kind, and 255 if there is none.
 fn first_like(t: Nodes, wanted: u8, from: usize) -> usize {

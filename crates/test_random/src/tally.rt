@@ -19,7 +19,7 @@ pub struct Count {
 }
 
 // What the random sessions count besides: those on an empty text, the seeds, the best chains compared, those of two seeds or more, those with
-// a tie, and the open areas.
+// a tie, the open areas, and the seeds whose areas stand in another order in the paper's than by rising a.
 pub struct Seen {
     pub empty: usize,
     pub seeds: usize,
@@ -27,6 +27,7 @@ pub struct Seen {
     pub longer: usize,
     pub ties: usize,
     pub areas: usize,
+    pub reordered: usize,
 }
 
 // What is counted from case to case.
@@ -51,6 +52,7 @@ pub fn nothing() -> Seen {
         longer: 0,
         ties: 0,
         areas: 0,
+        reordered: 0,
     }
 }
 
@@ -100,8 +102,12 @@ pub fn with_seeds(s: Seen, ground: usize) -> Seen {
     next
 }
 
-pub fn with_areas(s: Seen, n: usize) -> Seen {
+// The areas of one seed more.
+pub fn with_areas(s: Seen, n: usize, rises: bool) -> Seen {
     let mut next = s;
+    if !rises {
+        next.reordered = more(s.reordered);
+    }
     if n < 1000 {
         if s.areas < 1000000000 {
             next.areas = s.areas + n;
@@ -155,7 +161,12 @@ pub fn print_seen(s: Seen) {
     let chains = with_count(seeds, s.chains, b" best chains, ");
     let longer = with_count(chains, s.longer, b" of two seeds or more, ");
     let ties = with_count(longer, s.ties, b" with a tie, ");
-    print(with_count(ties, s.areas, b" open areas\n"));
+    let areas = with_count(ties, s.areas, b" open areas, ");
+    print(with_count(
+        areas,
+        s.reordered,
+        b" seeds whose two lists of areas differ\n",
+    ));
 }
 
 fn print_bytes(bytes: [u8; 12], n: usize) {

@@ -1,10 +1,14 @@
-// What a random session lets be seen, held to its table and to the definitions: the best chain, the open areas and the row of a seed, and the
-// deck.
+// What a random session lets be seen, held to its table and to the definitions: the best chain, the open areas in both orders and the row of a
+// seed, and the deck.
 use super::play::Play;
+use area::Listed;
 use best::Best;
 use best::SCRATCH;
 use chain::Session;
 use test_brute::areas::areas_right;
+use test_brute::areas::rises;
+use test_brute::areas::same_boxes;
+use test_brute::paper::in_order_of_work;
 use test_brute::seeds::List;
 use test_brute::seeds::Trees;
 use test_brute::seeds::both;
@@ -20,6 +24,7 @@ use test_random::tally::Seen;
 use test_random::tally::marked;
 use test_random::tally::with_areas;
 use test_words::answers::ground_of;
+use test_words::plain::all_are;
 use test_words::plain::fourfold;
 use test_words::plain::more;
 use test_words::plain::part;
@@ -111,10 +116,33 @@ pub fn best(p: Play) -> Play
     )
 }
 
-// Whether the areas that a session lists of a seed are right, and how many there are.
+// Whether the areas that a session lists of a seed are right, and those in the paper's order, how many there are, and whether they stand by rising
+// a in that order too.
 struct Listing {
     right: bool,
+    paper: bool,
     count: usize,
+    rises: bool,
+}
+
+// Whether a listing in the paper's order is accepted, has so many areas, and leaves the bytes behind them.
+fn as_many(listed: Listed, count: usize, out: &[u8]) -> bool {
+    let answer = listed.answer;
+    if ground_of(answer) != 0 {
+        return false;
+    }
+    if listed.count != count {
+        return false;
+    }
+    all_are(out, fourfold(count), 170)
+}
+
+// Whether its boxes are those of the order of work, and those that stand by rising a in the other listing.
+fn work_right(trees: Trees, seed: List, boxes: &[u8], others: &[u8], count: usize) -> bool {
+    if !same_boxes(others, count, boxes) {
+        return false;
+    }
+    in_order_of_work(trees, seed, boxes)
 }
 
 fn listed_right(
@@ -123,14 +151,21 @@ fn listed_right(
     trees: Trees,
     seed: List,
     out: &mut [u8],
+    paper: &mut [u8],
 ) -> Listing
     requires { ⌜ Sound session ⌝ }
 {
     let listed = session.areas(number, out);
-    let boxes = part(out, 0, fourfold(listed.count));
+    let worked = session.areas_in_paper_order(number, paper);
+    let many = as_many(worked, listed.count, paper);
+    let end = fourfold(listed.count);
+    let others = part(out, 0, end);
+    let boxes = part(paper, 0, end);
     Listing {
-        right: areas_right(trees, seed, boxes, listed.count),
+        right: areas_right(trees, seed, others, listed.count),
+        paper: both(many, work_right(trees, seed, boxes, others, listed.count)),
         count: listed.count,
+        rises: rises(boxes, listed.count),
     }
 }
 
@@ -141,7 +176,15 @@ fn listing_of(p: Play, i: usize) -> Listing
     let table = p.table;
     let trees = p.trees;
     let mut out = [0u8; 1024];
-    listed_right(session, more(i), trees, brute::seed(table, i), &mut out)
+    let mut paper = [170u8; 1024];
+    listed_right(
+        session,
+        more(i),
+        trees,
+        brute::seed(table, i),
+        &mut out,
+        &mut paper,
+    )
 }
 
 // Whether the row of the seed at a place is the table's.
@@ -161,6 +204,13 @@ fn row_right(p: Play, i: usize) -> bool
     both(ends, both(row.pairs == q.count, there))
 }
 
+// Whether the row and the areas of a seed are right is counted.
+fn with_seed(c: Count, row: bool, l: Listing) -> Count {
+    let rows = marked(c, row, b"a row");
+    let areas = marked(rows, l.right, b"open areas");
+    marked(areas, l.paper, b"open areas in the paper's order")
+}
+
 // The open areas and the row of the seed at a place of the table are compared, if there is one.
 pub fn list_areas(p: Play, i: usize) -> Play
     requires { ⌜ Sound (p .session) ⌝ }
@@ -173,11 +223,10 @@ pub fn list_areas(p: Play, i: usize) -> Play
         return p;
     }
     let l = listing_of(p, i);
-    let rows = marked(count, row_right(p, i), b"a row");
     noted(
         p,
-        with_areas(seen, l.count),
-        marked(rows, l.right, b"open areas"),
+        with_areas(seen, l.count, l.rises),
+        with_seed(count, row_right(p, i), l),
     )
 }
 
