@@ -6,13 +6,13 @@ use mathlib.Core.List.{List, [], _∷_}
 use lib.ListN.{getD}
 use Rattle.answer.specs.Answer.{numberOf, said}
 use Rattle.answer.specs.declared.Ground.{Ground}
-use Rattle.answer.specs.declared.Ground.the-variants.{TextLength, UnknownByte, ClosesNothing, NeverClosed, DeckLayout, PairIndex, PairReachedTwice, PairNeverReached, NumberNotGiven, PresenceAsAsked, ScoreRange, NoPairs, SeedLimit, PairLimit, OutsideTree, NotRising, AncestryDiffers, LastNotAncestor, BorderUnpaired, ChangeLimit, ScratchShort, OutputShort, ScoreText, ClosesOtherKind, UnlikeNodes}
+use Rattle.answer.specs.declared.Ground.the-variants.{TextLength, UnknownByte, ClosesNothing, NeverClosed, DeckLayout, PairIndex, PairReachedTwice, PairNeverReached, NumberNotGiven, PresenceAsAsked, ScoreRange, NoPairs, SeedLimit, PairLimit, OutsideTree, NotRising, AncestryDiffers, LastNotAncestor, BorderUnpaired, ChangeLimit, ScratchShort, OutputShort, ScoreText, ClosesOtherKind, UnlikeNodes, QueueFull}
 use Rattle.answer.specs.declared.Answer.{Answer}
 use Rattle.answer.specs.declared.Answer.the-variants.{Accepted, Refused}
 
--- The grounds at their numbers; no ground has number 0.
+-- The grounds at their numbers; no ground has number 0 or 26 to 30.
 abbrev grounds : List Ground
-grounds = TextLength ∷ TextLength ∷ UnknownByte ∷ ClosesNothing ∷ NeverClosed ∷ DeckLayout ∷ PairIndex ∷ PairReachedTwice ∷ PairNeverReached ∷ NumberNotGiven ∷ PresenceAsAsked ∷ ScoreRange ∷ NoPairs ∷ SeedLimit ∷ PairLimit ∷ OutsideTree ∷ NotRising ∷ AncestryDiffers ∷ LastNotAncestor ∷ BorderUnpaired ∷ ChangeLimit ∷ ScratchShort ∷ OutputShort ∷ ScoreText ∷ ClosesOtherKind ∷ UnlikeNodes ∷ []
+grounds = TextLength ∷ TextLength ∷ UnknownByte ∷ ClosesNothing ∷ NeverClosed ∷ DeckLayout ∷ PairIndex ∷ PairReachedTwice ∷ PairNeverReached ∷ NumberNotGiven ∷ PresenceAsAsked ∷ ScoreRange ∷ NoPairs ∷ SeedLimit ∷ PairLimit ∷ OutsideTree ∷ NotRising ∷ AncestryDiffers ∷ LastNotAncestor ∷ BorderUnpaired ∷ ChangeLimit ∷ ScratchShort ∷ OutputShort ∷ ScoreText ∷ ClosesOtherKind ∷ UnlikeNodes ∷ TextLength ∷ TextLength ∷ TextLength ∷ TextLength ∷ TextLength ∷ QueueFull ∷ []
 
 abbrev groundOf : ℕ → Ground
 groundOf n = getD grounds n TextLength
@@ -43,6 +43,7 @@ numbered OutputShort = refl
 numbered ScoreText = refl
 numbered ClosesOtherKind = refl
 numbered UnlikeNodes = refl
+numbered QueueFull = refl
 
 pub number-injective : (g h : Ground) → numberOf g ≡ numberOf h → g ≡ h
 number-injective g h e = sym (numbered g) ∙ ap groundOf e ∙ numbered h

@@ -1,8 +1,8 @@
--- The numbered grounds for turning a call down (document 01, and 23 to 25 of document 02), and what an answer says by them.
+-- The numbered grounds for turning a call down (document 01, and 23 to 25 and 31 of document 02), and what an answer says by them.
 use mathlib.Core.Bool.{Bool, true, false}
 use Prim.Native.Nat.{ℕ}
 use Rattle.answer.specs.declared.Ground.{Ground}
-use Rattle.answer.specs.declared.Ground.the-variants.{TextLength, UnknownByte, ClosesNothing, NeverClosed, DeckLayout, PairIndex, PairReachedTwice, PairNeverReached, NumberNotGiven, PresenceAsAsked, ScoreRange, NoPairs, SeedLimit, PairLimit, OutsideTree, NotRising, AncestryDiffers, LastNotAncestor, BorderUnpaired, ChangeLimit, ScratchShort, OutputShort, ScoreText, ClosesOtherKind, UnlikeNodes}
+use Rattle.answer.specs.declared.Ground.the-variants.{TextLength, UnknownByte, ClosesNothing, NeverClosed, DeckLayout, PairIndex, PairReachedTwice, PairNeverReached, NumberNotGiven, PresenceAsAsked, ScoreRange, NoPairs, SeedLimit, PairLimit, OutsideTree, NotRising, AncestryDiffers, LastNotAncestor, BorderUnpaired, ChangeLimit, ScratchShort, OutputShort, ScoreText, ClosesOtherKind, UnlikeNodes, QueueFull}
 use Rattle.answer.specs.declared.Place.{Place}
 use Rattle.answer.specs.declared.Answer.{Answer}
 use Rattle.answer.specs.declared.Answer.the-variants.{Accepted, Refused}
@@ -59,6 +59,8 @@ numberOf ScoreText = 23
 numberOf ClosesOtherKind = 24
 -- A pair is of unlike nodes (document 02, c).
 numberOf UnlikeNodes = 25
+-- A job is offered while 16 wait (document 02, n).
+numberOf QueueFull = 31
 
 -- What an answer says: the call is accepted, or it is refused on the ground of this number at this place.
 pub data Said : Type 0 where

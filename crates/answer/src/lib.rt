@@ -30,6 +30,7 @@ pub enum Ground {
     ScoreText,
     ClosesOtherKind,
     UnlikeNodes,
+    QueueFull,
 }
 
 // Where a ground was met: a byte position of Q or of T, counted from 0, a seed number, or nowhere that could be named.
@@ -82,5 +83,6 @@ pub fn number(ground: Ground) -> usize
         Ground::ScoreText => 23,
         Ground::ClosesOtherKind => 24,
         Ground::UnlikeNodes => 25,
+        Ground::QueueFull => 31,
     }
 }
