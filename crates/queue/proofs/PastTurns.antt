@@ -7,6 +7,9 @@ use native.Mathlib.Omega.{arith}
 use lib.ListN.{length, drop, length-append, length-drop}
 use lib.Dec.{leb, eqb}
 use borrow.Author.Tests.{le-leb, leb-true, leb-false, eqb-true, eqb-false, eq-eqb, ne-eqb}
+use Rattle.answer.specs.Answer.{decide}
+use Rattle.answer.specs.declared.Answer.{Answer}
+use Rattle.answer.specs.declared.Answer.the-variants.{Accepted, Refused}
 use Rattle.queue.specs.Jobs.{Job, PastTurn, QueueState, started, waiting, withWaiting, waitingCount, offerAnswer, afterOffer, tookUrgent, counts, lastThree, isEmpty, passesUrgent, oldest, turnOf, afterTurn}
 use Rattle.queue.specs.Calls.{Call, offer, turn, afterCall, stateAfter, stateFromStart}
 use Rattle.queue.specs.Handing.{inRow, Orderly}
@@ -52,6 +55,15 @@ row-three s o = go (leb 3 (inRow (s .past))) refl ∙ row-tells (s .past)
 pub empty-length : (jobs : List Job) → isEmpty jobs ≡ eqb (length jobs) 0
 empty-length [] = refl
 empty-length (job ∷ jobs) = sym (ne-eqb (suc (length jobs)) 0 (λ e. omega arith))
+
+-- Urgent jobs that wait are passed over only after three turns in a row.
+pub all-three : (s : QueueState) → isEmpty (s .urgent) ≡ false → passesUrgent s ≡ true → 3 ≤ inRow (s .past)
+unfolding passesUrgent
+all-three s u p = leb-true 3 (inRow (s .past)) (row-tells (s .past) ∙ go (isEmpty (s .urgent)) u p)
+  where
+    go : (b : Bool) → b ≡ false → b || lastThree (s .past) ≡ true → lastThree (s .past) ≡ true
+    go true e h = absurd (true≢false e)
+    go false e h = h
 
 -- A turn that passes the urgent jobs over leaves them, and ends the row.
 module _ (s : QueueState) (passed : passesUrgent s ≡ true) where
@@ -138,6 +150,15 @@ module _ (kind : Kind) (job : Job) (s : QueueState) where
   pub offer-free : waitingCount s < 16 → afterOffer kind job s ≡ withWaiting kind (waiting kind s ++ job ∷ []) s
   unfolding afterOffer offerAnswer
   offer-free h = rw (ne-eqb (waitingCount s) 16 (λ e. omega arith))
+
+  pub offer-past : afterOffer kind job s .past ≡ s .past
+  unfolding afterOffer
+  offer-past = go kind (offerAnswer s)
+    where
+      go : (k : Kind) (a : Answer) → decide a (withWaiting k (waiting k s ++ job ∷ []) s) s .past ≡ s .past
+      go Urgent Accepted = refl
+      go Ordinary Accepted = refl
+      go k (Refused g p) = refl
 
   pub offer-full : waitingCount s ≡ 16 → afterOffer kind job s ≡ s
   unfolding afterOffer offerAnswer
