@@ -43,43 +43,43 @@ module _ {q : Queue} {s : QueueState} (h : Stands q s) where
   -- A lane with one job more, in a queue that is not full.
   module _ (job : Job) (free : q .urgent .count + q .ordinary .count < 16) (l : Lane) (ring : Ring l) where
     abbrev with-urgent : Queue
-    with-urgent = record { urgent = l; ordinary = q .ordinary; row = q .row }
+    with-urgent = record { urgent = l; ordinary = q .ordinary; in_row = q .in_row }
 
     abbrev with-ordinary : Queue
-    with-ordinary = record { urgent = q .urgent; ordinary = l; row = q .row }
+    with-ordinary = record { urgent = q .urgent; ordinary = l; in_row = q .in_row }
 
     pub urgent-offered : {kind : Kind} → kind ≡ Urgent → jobsOf l ≡ jobsOf (q .urgent) ++ job ∷ [] → Stands with-urgent (afterOffer kind job s)
     urgent-offered k e =
         subst⁻¹ (λ (x : Kind). Stands with-urgent (afterOffer x job s)) k
         (subst⁻¹ (Stands with-urgent) (offer-free Urgent job s (omega (arith, both-counts)))
-        (record { urgent-ring = ring; ordinary-ring = h .ordinary-ring; urgent = e ∙ rw (h .urgent); ordinary = h .ordinary; row = h .row }))
+        (record { urgent-ring = ring; ordinary-ring = h .ordinary-ring; urgent = e ∙ rw (h .urgent); ordinary = h .ordinary; in-row = h .in-row }))
 
     pub ordinary-offered : {kind : Kind} → kind ≡ Ordinary → jobsOf l ≡ jobsOf (q .ordinary) ++ job ∷ [] → Stands with-ordinary (afterOffer kind job s)
     ordinary-offered k e =
         subst⁻¹ (λ (x : Kind). Stands with-ordinary (afterOffer x job s)) k
         (subst⁻¹ (Stands with-ordinary) (offer-free Ordinary job s (omega (arith, both-counts)))
-        (record { urgent-ring = h .urgent-ring; ordinary-ring = ring; urgent = h .urgent; ordinary = e ∙ rw (h .ordinary); row = h .row }))
+        (record { urgent-ring = h .urgent-ring; ordinary-ring = ring; urgent = h .urgent; ordinary = e ∙ rw (h .ordinary); in-row = h .in-row }))
 
   -- A lane without its oldest job.
   module _ (l : Lane) (ring : Ring l) where
-    pub ordinary-turned : passesUrgent s ≡ true → jobsOf l ≡ drop 1 (jobsOf (q .ordinary)) → Stands (record { urgent = q .urgent; ordinary = l; row = 0 }) (afterTurn s)
+    pub ordinary-turned : passesUrgent s ≡ true → jobsOf l ≡ drop 1 (jobsOf (q .ordinary)) → Stands (record { urgent = q .urgent; ordinary = l; in_row = 0 }) (afterTurn s)
     ordinary-turned p e =
         record {
           urgent-ring = h .urgent-ring;
           ordinary-ring = ring;
           urgent = h .urgent ∙ sym (ordinary-urgent s p);
           ordinary = e ∙ ap (drop 1) (h .ordinary) ∙ sym (ordinary-ordinary s p);
-          row = sym (ordinary-row s p);
+          in-row = sym (ordinary-row s p);
         }
 
-    pub urgent-turned : passesUrgent s ≡ false → jobsOf l ≡ drop 1 (jobsOf (q .urgent)) → Stands (record { urgent = l; ordinary = q .ordinary; row = cond (eqb (q .ordinary .count) 0) 0 (suc (q .row)) }) (afterTurn s)
+    pub urgent-turned : passesUrgent s ≡ false → jobsOf l ≡ drop 1 (jobsOf (q .urgent)) → Stands (record { urgent = l; ordinary = q .ordinary; in_row = cond (eqb (q .ordinary .count) 0) 0 (suc (q .in_row)) }) (afterTurn s)
     urgent-turned p e =
         record {
           urgent-ring = ring;
           ordinary-ring = h .ordinary-ring;
           urgent = e ∙ ap (drop 1) (h .urgent) ∙ sym (urgent-urgent s p);
           ordinary = h .ordinary ∙ sym (urgent-ordinary s p);
-          row = sym (urgent-row s p ∙ rw (empty-length (s .ordinary), ordinary-count, h .row));
+          in-row = sym (urgent-row s p ∙ rw (empty-length (s .ordinary), ordinary-count, h .in-row));
         }
 
 -- What the calls promise, from what their parts do. A queue that is full hands itself back.
@@ -115,23 +115,23 @@ module _ {q : Queue} (given-over : FromStart q) where
         omega (arith, both-counts h, orderly (given-over .calls) .few)
 
   module _ {passed : Bool} (tells : ByHistory q (λ calls. passed ≡ passesUrgent (stateFromStart calls))) (l : Lane) (ring : Ring l) where
-    pub takes-ordinary : {t : Turn} → passed ≡ true → t ≡ oldest Ordinary (jobsOf (q .ordinary)) → jobsOf l ≡ drop 1 (jobsOf (q .ordinary)) → Turns q (record { taken = t; queue = record { urgent = q .urgent; ordinary = l; row = 0 } })
+    pub takes-ordinary : {t : Turn} → passed ≡ true → t ≡ oldest Ordinary (jobsOf (q .ordinary)) → jobsOf l ≡ drop 1 (jobsOf (q .ordinary)) → Turns q (record { taken = t; queue = record { urgent = q .urgent; ordinary = l; in_row = 0 } })
     takes-ordinary {t} p o e = record { takes = takes; leaves = leaves; handed = from-start turn given-over leaves }
       where
         takes : ByHistory q (λ calls. t ≡ turnOf (stateFromStart calls))
         takes calls h = o ∙ ap (oldest Ordinary) (h .ordinary) ∙ sym (ordinary-turn (stateFromStart calls) (sym (tells calls h) ∙ p))
 
-        leaves : ByHistory q (λ calls. HandedOver (record { urgent = q .urgent; ordinary = l; row = 0 }) (calls ++ turn ∷ []))
+        leaves : ByHistory q (λ calls. HandedOver (record { urgent = q .urgent; ordinary = l; in_row = 0 }) (calls ++ turn ∷ []))
         leaves calls h = handed-on calls turn (ordinary-turned h l ring (sym (tells calls h) ∙ p) e)
 
-    pub takes-urgent : {t : Turn} {n : ℕ} → passed ≡ false → t ≡ oldest Urgent (jobsOf (q .urgent)) → jobsOf l ≡ drop 1 (jobsOf (q .urgent)) → n ≡ cond (eqb (q .ordinary .count) 0) 0 (suc (q .row)) → Turns q (record { taken = t; queue = record { urgent = l; ordinary = q .ordinary; row = n } })
+    pub takes-urgent : {t : Turn} {n : ℕ} → passed ≡ false → t ≡ oldest Urgent (jobsOf (q .urgent)) → jobsOf l ≡ drop 1 (jobsOf (q .urgent)) → n ≡ cond (eqb (q .ordinary .count) 0) 0 (suc (q .in_row)) → Turns q (record { taken = t; queue = record { urgent = l; ordinary = q .ordinary; in_row = n } })
     takes-urgent {t} {n} p o e r = record { takes = takes; leaves = leaves; handed = from-start turn given-over leaves }
       where
         takes : ByHistory q (λ calls. t ≡ turnOf (stateFromStart calls))
         takes calls h = o ∙ ap (oldest Urgent) (h .urgent) ∙ sym (urgent-turn (stateFromStart calls) (sym (tells calls h) ∙ p))
 
-        leaves : ByHistory q (λ calls. HandedOver (record { urgent = l; ordinary = q .ordinary; row = n }) (calls ++ turn ∷ []))
-        leaves calls h = handed-on calls turn (subst⁻¹ (λ (k : ℕ). Stands (record { urgent = l; ordinary = q .ordinary; row = k }) (afterTurn (stateFromStart calls))) r (urgent-turned h l ring (sym (tells calls h) ∙ p) e))
+        leaves : ByHistory q (λ calls. HandedOver (record { urgent = l; ordinary = q .ordinary; in_row = n }) (calls ++ turn ∷ []))
+        leaves calls h = handed-on calls turn (subst⁻¹ (λ (k : ℕ). Stands (record { urgent = l; ordinary = q .ordinary; in_row = k }) (afterTurn (stateFromStart calls))) r (urgent-turned h l ring (sym (tells calls h) ∙ p) e))
 
-  pub row-small : q .row ≤ 3
-  row-small = omega (arith, given-over .over .row, orderly (given-over .calls) .three)
+  pub row-small : q .in_row ≤ 3
+  row-small = omega (arith, given-over .over .in-row, orderly (given-over .calls) .three)

@@ -9,7 +9,7 @@ use Rattle.queue.specs.Calls.{Call, offer, turn, stateFromStart}
 use Rattle.queue.specs.Grounds.{OfferSays}
 use Rattle.queue.specs.Waits.{TakenAt}
 use Rattle.queue.specs.Handing.{HandedOver, Offers, Turns}
-use Rattle.queue.specs.Runs.{Ran, nothing, offered, turned}
+use Rattle.queue.specs.Runs.{LedTo, nothing, offered, turned}
 use Rattle.queue.specs.declared.Kind.{Kind}
 use Rattle.queue.specs.declared.Queue.{Queue}
 use Rattle.queue.specs.declared.Offered.{Offered}
@@ -19,10 +19,10 @@ use Rattle.queue.proofs.Grounds.{offer-decides}
 use Rattle.queue.proofs.Rules.{none-exactly}
 
 -- The queue after more calls was handed over by all of them.
-pub ran-on : {q now : Queue} (history : List Call) {calls : List Call} → HandedOver q history → Ran q calls now → HandedOver now (history ++ calls)
-ran-on {q} history h nothing = subst (HandedOver q) (sym (append-nil history)) h
-ran-on history h (offered {calls = calls} {kind = kind} {job = job} {r = r} ran o) = subst (HandedOver (r .queue)) (append-assoc history calls (offer kind job ∷ [])) (o .leaves (history ++ calls) (ran-on history h ran))
-ran-on history h (turned {calls = calls} {r = r} ran t) = subst (HandedOver (r .queue)) (append-assoc history calls (turn ∷ [])) (t .leaves (history ++ calls) (ran-on history h ran))
+pub led-on : {q now : Queue} (history : List Call) {calls : List Call} → HandedOver q history → LedTo q calls now → HandedOver now (history ++ calls)
+led-on {q} history h nothing = subst (HandedOver q) (sym (append-nil history)) h
+led-on history h (offered {calls = calls} {kind = kind} {job = job} {r = r} led o) = subst (HandedOver (r .queue)) (append-assoc history calls (offer kind job ∷ [])) (o .leaves (history ++ calls) (led-on history h led))
+led-on history h (turned {calls = calls} {r = r} led t) = subst (HandedOver (r .queue)) (append-assoc history calls (turn ∷ [])) (t .leaves (history ++ calls) (led-on history h led))
 
 module _ {q : Queue} (history : List Call) (h : HandedOver q history) where
   -- An offer is refused with 31 exactly if 16 jobs wait by the history, and a turn answers none exactly if no job does.
@@ -35,5 +35,5 @@ module _ {q : Queue} (history : List Call) (h : HandedOver q history) where
       (λ n. none-exactly history .0 (sym e ∙ n), λ n. e ∙ none-exactly history .1 n)
 
   -- A turn behind more calls takes the job that is taken there.
-  pub takes-there : {n : ℕ} {kind : Kind} {ahead : List Job} {job : Job} {before : List Call} {now : Queue} {r : Turned} → TakenAt n kind ahead job history before → Ran q before now → Turns now r → r .taken ≡ Took kind (job .query) (job .structure)
-  takes-there {before = before} there ran t = t .takes (history ++ before) (ran-on history h ran) ∙ there .taken
+  pub takes-there : {n : ℕ} {kind : Kind} {ahead : List Job} {job : Job} {before : List Call} {now : Queue} {r : Turned} → TakenAt n kind ahead job history before → LedTo q before now → Turns now r → r .taken ≡ Took kind (job .query) (job .structure)
+  takes-there {before = before} there led t = t .takes (history ++ before) (led-on history h led) ∙ there .taken

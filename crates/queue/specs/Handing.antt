@@ -30,7 +30,7 @@ pub record Stands (q : Queue) (s : QueueState) : Type 0 where
   pub ordinary-ring : Ring (q .ordinary)
   pub urgent : jobsOf (q .urgent) ≡ s .urgent
   pub ordinary : jobsOf (q .ordinary) ≡ s .ordinary
-  pub row : q .row ≡ inRow (s .past)
+  pub in-row : q .in_row ≡ inRow (s .past)
 
 -- The queue that the start and then these calls handed over.
 abbrev pub HandedOver : Queue → List Call → Type 0

@@ -9,7 +9,7 @@ use Rattle.queue.specs.declared.Offered.{Offered}
 use Rattle.queue.specs.declared.Turned.{Turned}
 
 -- From one queue these calls led to another, each having kept its promise.
-pub data Ran (q : Queue) : List Call → Queue → Type 0 where
-  nothing : Ran q [] q
-  offered : {now : Queue} {calls : List Call} {kind : Kind} {job : Job} {r : Offered} → Ran q calls now → Offers now kind job r → Ran q (calls ++ offer kind job ∷ []) (r .queue)
-  turned : {now : Queue} {calls : List Call} {r : Turned} → Ran q calls now → Turns now r → Ran q (calls ++ turn ∷ []) (r .queue)
+pub data LedTo (q : Queue) : List Call → Queue → Type 0 where
+  nothing : LedTo q [] q
+  offered : {now : Queue} {calls : List Call} {kind : Kind} {job : Job} {r : Offered} → LedTo q calls now → Offers now kind job r → LedTo q (calls ++ offer kind job ∷ []) (r .queue)
+  turned : {now : Queue} {calls : List Call} {r : Turned} → LedTo q calls now → Turns now r → LedTo q (calls ++ turn ∷ []) (r .queue)

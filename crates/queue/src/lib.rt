@@ -36,7 +36,7 @@ pub enum Turn {
 pub struct Queue {
     urgent: Lane,
     ordinary: Lane,
-    row: usize,
+    in_row: usize,
 }
 
 // What an offer answers, and the queue that it hands over.
@@ -59,7 +59,7 @@ pub fn start() -> Queue
     Queue {
         urgent: empty(),
         ordinary: empty(),
-        row: 0,
+        in_row: 0,
     }
 }
 
@@ -82,12 +82,12 @@ fn with_job(queue: Queue, kind: Kind, query: u16, structure: u16) -> Queue
         Kind::Urgent => Queue {
             urgent: urgent.with_job(query, structure),
             ordinary,
-            row: queue.row,
+            in_row: queue.in_row,
         },
         Kind::Ordinary => Queue {
             urgent,
             ordinary: ordinary.with_job(query, structure),
-            row: queue.row,
+            in_row: queue.in_row,
         },
     }
 }
@@ -99,15 +99,15 @@ fn passes_urgent(queue: Queue) -> bool
     if queue.urgent.count == 0 {
         return true;
     }
-    queue.row == 3
+    queue.in_row == 3
 }
 
-// The row after an urgent job was taken while so many ordinary ones waited.
-fn row_after(row: usize, ordinary: usize) -> usize
-    requires { ⌜ row ≤ 3 ⌝ }
-    ensures { λ r. ⌜ r ≡ cond (eqb ordinary 0) 0 (suc row) ⌝ }
+// How many turns are in a row after an urgent job was taken while so many ordinary ones waited.
+fn in_row_after(in_row: usize, ordinary: usize) -> usize
+    requires { ⌜ in_row ≤ 3 ⌝ }
+    ensures { λ r. ⌜ r ≡ cond (eqb ordinary 0) 0 (suc in_row) ⌝ }
 {
-    if ordinary == 0 { 0 } else { row + 1 }
+    if ordinary == 0 { 0 } else { in_row + 1 }
 }
 
 impl Queue {
@@ -141,7 +141,7 @@ impl Queue {
                 queue: Queue {
                     urgent,
                     ordinary: ordinary.without_oldest(),
-                    row: 0,
+                    in_row: 0,
                 },
             };
         }
@@ -150,7 +150,7 @@ impl Queue {
             queue: Queue {
                 urgent: urgent.without_oldest(),
                 ordinary,
-                row: row_after(self.row, ordinary.count),
+                in_row: in_row_after(self.in_row, ordinary.count),
             },
         }
     }

@@ -18,7 +18,7 @@ returns-2 : tie.Need-returns-2
 unfolding passesUrgent
 returns-2 c calls h =
     let s = stateFromStart calls in
-    ap (λ (n : ℕ). eqb n 3) (h .row)
+    ap (λ (n : ℕ). eqb n 3) (h .in-row)
     ∙ row-three s (orderly calls)
     ∙ sym (rw (empty-length (s .urgent), ne-eqb _ 0 (λ e. c .before .if1 .left (sym (urgent-count h) ∙ e))))
 

@@ -18,7 +18,7 @@ unfolding stateFromStart stateAfter inRow
 returns c =
     let urgent = c .before .empty .ensures in
     let ordinary = c .empty2 .ensures in
-    let over : HandedOver _ [] = record { urgent-ring = urgent .0; ordinary-ring = ordinary .0; urgent = urgent .1; ordinary = ordinary .1; row = refl } in
+    let over : HandedOver _ [] = record { urgent-ring = urgent .0; ordinary-ring = ordinary .0; urgent = urgent .1; ordinary = ordinary .1; in-row = refl } in
     (over, record { calls = []; over = over })
 
 pub start-spec : {M : Type 1} → statement M

@@ -25,14 +25,14 @@ oldest-requires-2 c κs = c .before .before .before .before .pre .over .urgent-r
 without-oldest-requires-2 : tie.Need-without-oldest-requires-2
 without-oldest-requires-2 c κs = c .before .before .before .before .before .pre .over .urgent-ring
 
-row-after-requires : tie.Need-row-after-requires
-row-after-requires c κs = row-small (c .before .before .before .before .before .before .pre)
+in-row-after-requires : tie.Need-in-row-after-requires
+in-row-after-requires c κs = row-small (c .before .before .before .before .before .before .pre)
 
 returns-2 : tie.Need-returns-2
 returns-2 c =
     let test = c .before .before .before .before in
     let rest = c .before .without-oldest2 in
-    takes-urgent (test .before .before .before .pre) (test .passes-urgent .ensures) (rest .result) (rest .ensures .0) (c .before .before .before .if1 .left) (c .before .before .oldest2 .ensures) (rest .ensures .1) (c .row-after .ensures)
+    takes-urgent (test .before .before .before .pre) (test .passes-urgent .ensures) (rest .result) (rest .ensures .0) (c .before .before .before .if1 .left) (c .before .before .oldest2 .ensures) (rest .ensures .1) (c .in-row-after .ensures)
 
 pub turned-spec : {M : Type 1} → statement M
 turned-spec =
@@ -44,5 +44,5 @@ turned-spec =
     returns
     oldest-requires-2
     without-oldest-requires-2
-    row-after-requires
+    in-row-after-requires
     returns-2)
