@@ -6,8 +6,8 @@ use Prim.Native.Nat.{ℕ, zero, suc, _+_, _-_, _*_, _/_, _≤_, _<_}
 use native.Mathlib.Omega.{arith}
 use lib.ListN.{length, drop}
 use Rattle.queue.specs.Jobs.{Job, QueueState, started, waiting, isEmpty, passesUrgent, afterOffer, oldest, turnOf, afterTurn}
-use Rattle.queue.specs.Calls.{Call, offer, turn, afterCall, stateAfter, stateFromStart, turnsIn, jobsIn, acceptedBy, takenBy, takenIn}
-use Rattle.queue.specs.Waits.{TakenAt, TakenWithin}
+use Rattle.queue.specs.Calls.{Call, offer, turn, afterCall, stateAfter, stateFromStart, turnsIn, jobsIn, acceptedBy, takenIn}
+use Rattle.queue.specs.Waits.{TakenWithin}
 use Rattle.queue.specs.Handing.{inRow}
 use Rattle.queue.specs.declared.Kind.{Kind}
 use Rattle.queue.specs.declared.Kind.the-variants.{Urgent, Ordinary}

@@ -5,7 +5,7 @@ ghost use mathlib.Core.Path.{_≡_};
 ghost use mathlib.Core.List.{[], _∷_, _++_};
 ghost use Prim.Native.Nat.{_+_, _%_, _≤_, _<_};
 ghost use lib.ListN.{drop};
-ghost use Rattle.queue.specs.Jobs.{Job, oldest};
+ghost use Rattle.queue.specs.Jobs.{oldest};
 ghost use Rattle.queue.specs.Rings.{Ring, jobsOf};
 
 // How many jobs wait together at most.

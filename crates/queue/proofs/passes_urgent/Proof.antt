@@ -1,5 +1,5 @@
 -- `passes_urgent` meets its contract: the row tells whether the last three turns all took urgent jobs while an ordinary one waited.
-use mathlib.Core.Path.{_≡_, sym, ap, _∙_}
+use mathlib.Core.Path.{sym, ap, _∙_}
 use Prim.Native.Nat.{ℕ}
 use lib.Dec.{eqb}
 use borrow.Author.Tests.{eq-eqb, ne-eqb}

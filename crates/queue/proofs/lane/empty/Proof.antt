@@ -1,3 +1,4 @@
+-- `lane::empty` meets its contract: no job is counted.
 use mathlib.Core.Path.{refl}
 use native.Mathlib.Omega.{arith}
 use Rattle.queue.proofs.lane.empty.Statement.{statement}

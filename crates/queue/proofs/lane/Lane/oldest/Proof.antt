@@ -1,5 +1,5 @@
 -- `Lane::oldest` meets its contract: the first place holds the oldest job.
-use mathlib.Core.Path.{refl, sym, ap, _∙_}
+use mathlib.Core.Path.{refl}
 use native.Mathlib.Omega.{arith}
 use borrow.Author.Needs.{needs}
 use Rattle.queue.specs.Jobs.{oldest}

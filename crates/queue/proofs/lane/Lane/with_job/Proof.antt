@@ -1,7 +1,4 @@
 -- `Lane::with_job` meets its contract: the place behind the last job is free.
-use mathlib.Core.Path.{_≡_}
-use Prim.Native.Nat.{_<_}
-use native.Mathlib.Omega.{arith}
 use borrow.Author.Needs.{needs}
 use Rattle.queue.proofs.Ringing.{put-ring, put-jobs}
 use Rattle.queue.proofs.lane.Lane.with_job.Statement.{statement}

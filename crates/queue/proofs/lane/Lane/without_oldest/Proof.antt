@@ -1,5 +1,5 @@
 -- `Lane::without_oldest` meets its contract: the job behind the oldest is the first of those left.
-use mathlib.Core.Path.{refl, sym, ap, _∙_}
+use mathlib.Core.Path.{sym, ap}
 use native.Mathlib.Omega.{arith}
 use lib.ListN.{drop}
 use borrow.Author.Needs.{needs}
