@@ -2,6 +2,8 @@
 pub mod changes;
 pub mod example;
 pub mod observe;
+pub mod panel;
+pub mod queues;
 pub mod redeal;
 pub mod reports;
 pub mod scores;

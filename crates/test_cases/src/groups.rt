@@ -1,6 +1,8 @@
 // The groups of random cases, all texts of a length, and all scores.
 use test_nudges::moves::print_moves;
 use test_nudges::nudges;
+use test_queue::lists::lists;
+use test_queue::waits::print_served;
 use test_random::stretches::stretches;
 use test_random::tally::Count;
 use test_random::tally::print_count;
@@ -66,6 +68,14 @@ fn random_numbers(cases: usize, seed: usize) -> Text {
     wrong(c)
 }
 
+fn random_queue(cases: usize, seed: usize) -> Text {
+    let served = lists(cases, seed as u64);
+    let count = served.count;
+    print_count(b"random queue: ", count);
+    print_served(served);
+    wrong(count)
+}
+
 // random GROUP CASES SEED
 pub fn random(s: &[u8], at: usize) -> Text {
     let cases = next(s, at);
@@ -84,6 +94,9 @@ pub fn random(s: &[u8], at: usize) -> Text {
     }
     if check::same(word(s, at), b"numbers") {
         return random_numbers(number(s, cases), number(s, seed));
+    }
+    if check::same(word(s, at), b"queue") {
+        return random_queue(number(s, cases), number(s, seed));
     }
     random_sessions(number(s, cases), number(s, seed))
 }

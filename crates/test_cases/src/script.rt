@@ -2,7 +2,9 @@
 use super::verbs::called;
 use super::verbs::opens;
 use chain::Session;
+use queue::Queue;
 use test_calls::observe::alike;
+use test_calls::queues;
 use test_words::Text;
 use test_words::begins;
 use test_words::blank;
@@ -19,11 +21,13 @@ use test_words::print;
 use test_words::with_bytes;
 use test_words::with_number;
 ghost use Rattle.chain.specs.View.{Sound};
+ghost use Rattle.queue.specs.Handing.{FromStart};
 
-// Where a script stands: the session, where in the script its two texts and the name of the case are, and what is counted; `bad` is
-// whether a call of the case was wrong.
+// Where a script stands: the session and the queue, where in the script the session's two texts and the name of the case are, and what is
+// counted; `bad` is whether a call of the case was wrong.
 struct State {
     session: Session,
+    queue: Queue,
     texts: usize,
     name: usize,
     calls: usize,
@@ -85,10 +89,19 @@ fn expected(s: &[u8], at: usize) -> &[u8] {
     part(s, more(more(sign(s, at))), line_end(s, at))
 }
 
-// Makes the call of a line and holds its answer to what the line says.
+// Holds what a call answered to what its line says, and prints it if it is something else.
+fn is_right(s: &[u8], name: usize, at: usize, text: Text) -> bool {
+    let right = is(text, expected(s, at));
+    if !right {
+        print_wrong(s, name, at, text);
+    }
+    right
+}
+
+// Makes the call of a line on the session.
 fn judged(state: State, s: &[u8], at: usize) -> State
-    requires { ⌜ Sound (state .session) ⌝ }
-    ensures { λ r. ⌜ Sound (r .session) ⌝ }
+    requires { ⌜ Sound (state .session) × FromStart (state .queue) ⌝ }
+    ensures { λ r. ⌜ Sound (r .session) × FromStart (r .queue) ⌝ }
 {
     let session = state.session;
     let from = begin(s, at);
@@ -101,11 +114,30 @@ fn judged(state: State, s: &[u8], at: usize) -> State
             text = with_bytes(text, b", session changed");
         }
     }
-    let right = is(text, expected(s, at));
-    if !right {
-        print_wrong(s, state.name, at, text);
+    let mut next = counted(state, is_right(s, state.name, at, text));
+    next.session = later;
+    next.texts = placed(s, from, state.texts);
+    next
+}
+
+// Makes the call of a line on the queue.
+fn queue_judged(state: State, s: &[u8], at: usize) -> State
+    requires { ⌜ Sound (state .session) × FromStart (state .queue) ⌝ }
+    ensures { λ r. ⌜ Sound (r .session) × FromStart (r .queue) ⌝ }
+{
+    let queue = state.queue;
+    let turns = times(s, at);
+    let done = queues::called(queue, s, begin(s, at), turns);
+    let later = done.queue;
+    let mut text = done.text;
+    if turns == 1 {
+        if !queues::kept(queue, later, text) {
+            text = with_bytes(text, b", queue changed");
+        }
     }
-    settled(state, later, right, placed(s, from, state.texts))
+    let mut next = counted(state, is_right(s, state.name, at, text));
+    next.queue = later;
+    next
 }
 
 // Where the session's texts stand after a call.
@@ -116,13 +148,12 @@ fn placed(s: &[u8], at: usize, texts: usize) -> usize {
     texts
 }
 
-fn settled(state: State, session: Session, right: bool, texts: usize) -> State
-    requires { ⌜ Sound session ⌝ }
-    ensures { λ r. ⌜ Sound (r .session) ⌝ }
+// One call more.
+fn counted(state: State, right: bool) -> State
+    requires { ⌜ Sound (state .session) × FromStart (state .queue) ⌝ }
+    ensures { λ r. ⌜ Sound (r .session) × FromStart (r .queue) ⌝ }
 {
     let mut next = state;
-    next.session = session;
-    next.texts = texts;
     next.calls = more(state.calls);
     if !right {
         next.wrong = more(state.wrong);
@@ -133,8 +164,8 @@ fn settled(state: State, session: Session, right: bool, texts: usize) -> State
 
 // Ends the case before, if there is one.
 fn ended(state: State, s: &[u8]) -> State
-    requires { ⌜ Sound (state .session) ⌝ }
-    ensures { λ r. ⌜ Sound (r .session) ⌝ }
+    requires { ⌜ Sound (state .session) × FromStart (state .queue) ⌝ }
+    ensures { λ r. ⌜ Sound (r .session) × FromStart (r .queue) ⌝ }
 {
     let mut next = state;
     if 0 < state.cases {
@@ -148,8 +179,8 @@ fn ended(state: State, s: &[u8]) -> State
 }
 
 fn named(state: State, s: &[u8], at: usize) -> State
-    requires { ⌜ Sound (state .session) ⌝ }
-    ensures { λ r. ⌜ Sound (r .session) ⌝ }
+    requires { ⌜ Sound (state .session) × FromStart (state .queue) ⌝ }
+    ensures { λ r. ⌜ Sound (r .session) × FromStart (r .queue) ⌝ }
 {
     let name = next(s, at);
     let mut later = ended(state, s);
@@ -158,8 +189,8 @@ fn named(state: State, s: &[u8], at: usize) -> State
 }
 
 fn line(state: State, s: &[u8], at: usize) -> State
-    requires { ⌜ Sound (state .session) ⌝ }
-    ensures { λ r. ⌜ Sound (r .session) ⌝ }
+    requires { ⌜ Sound (state .session) × FromStart (state .queue) ⌝ }
+    ensures { λ r. ⌜ Sound (r .session) × FromStart (r .queue) ⌝ }
 {
     if byte_at(s, at) == b'\n' {
         return state;
@@ -170,12 +201,15 @@ fn line(state: State, s: &[u8], at: usize) -> State
     if check::same(word(s, at), b"case") {
         return named(state, s, at);
     }
+    if queues::is_call(s, begin(s, at)) {
+        return queue_judged(state, s, at);
+    }
     judged(state, s, at)
 }
 
 fn lines(state: State, s: &[u8]) -> State
-    requires { ⌜ Sound (state .session) ⌝ }
-    ensures { λ r. ⌜ Sound (r .session) ⌝ }
+    requires { ⌜ Sound (state .session) × FromStart (state .queue) ⌝ }
+    ensures { λ r. ⌜ Sound (r .session) × FromStart (r .queue) ⌝ }
 {
     let mut now = state;
     let mut at = 0;
@@ -200,6 +234,7 @@ pub fn run(s: &[u8]) {
     let state = lines(
         State {
             session,
+            queue: queue::start(),
             texts: 0,
             name: 0,
             calls: 0,

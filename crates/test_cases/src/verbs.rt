@@ -11,6 +11,7 @@ use test_calls::changes::open;
 use test_calls::changes::rescore;
 use test_calls::changes::rescore_lent;
 use test_calls::example;
+use test_calls::panel;
 use test_calls::reports::exported;
 use test_calls::reports::report;
 use test_calls::scores;
@@ -60,6 +61,9 @@ fn without_session(s: &[u8], at: usize) -> Text {
     }
     if check::same(word(s, at), b"example") {
         return example::run();
+    }
+    if check::same(word(s, at), b"panel") {
+        return panel::run();
     }
     on_score(s, at)
 }

@@ -9,7 +9,7 @@ use test_words::with_bytes;
 use test_words::with_number;
 
 // One more than the highest number of a ground.
-const GROUNDS: usize = 26;
+const GROUNDS: usize = 32;
 
 // Calls accepted, calls refused by ground, and those that are not answered as they must be.
 pub struct Count {

@@ -45,6 +45,18 @@ pub fn small(n: usize) -> u8 {
     if n < 256 { n as u8 } else { 255 }
 }
 
+// The number as one of 16 bits, and 65,535 if it is none.
+pub fn to_u16(n: usize) -> u16 {
+    if n < 65536 { n as u16 } else { 65535 }
+}
+
+// A number of 16 bits as any other.
+pub fn from_u16(n: u16) -> usize
+    ensures { λ r. ⌜ r < 65536 ⌝ }
+{
+    n as usize
+}
+
 // Puts a byte into the output and answers the place behind it: where there is no room, nothing is put.
 pub fn put(out: &mut [u8], at: usize, byte: u8) -> usize {
     if at < out.len() {

@@ -8,7 +8,7 @@ abbrev Inv-loop : tie.InvT-loop
 Inv-loop c next₀ ground₀ t6 t7 next ground = Unit
 
 abbrev μ-loop : tie.MeasureT-loop
-μ-loop c next₀ ground₀ t6 t7 next ground = 26 - ground
+μ-loop c next₀ ground₀ t6 t7 next ground = 32 - ground
 
 pub with-refused-spec : {M : Type 1} → statement M
 with-refused-spec =
