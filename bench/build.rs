@@ -28,4 +28,5 @@ fn main() {
     link(&directory, "report", "library");
     link(&directory, "test_scores", "score_library");
     link(&directory, "test_areas", "area_library");
+    link(&directory, "test_queue", "queue_library");
 }

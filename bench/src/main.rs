@@ -15,6 +15,18 @@ mod fixed;
 mod inputs;
 mod kinds;
 mod library;
+mod queue_all;
+mod queue_both;
+mod queue_calls;
+mod queue_check;
+mod queue_counts;
+mod queue_examples;
+mod queue_library;
+mod queue_lists;
+mod queue_records;
+mod queue_times;
+mod queue_waits;
+mod queues;
 mod quick;
 mod random;
 mod reference;
@@ -263,7 +275,7 @@ fn number(argument: Option<String>, default: u64) -> u64 {
         Some(Ok(number)) => number,
         Some(Err(_)) => {
             eprintln!(
-                "usage: gurandyo-bench [scores or areas] [how many random inputs] [where the random numbers start], or lists"
+                "usage: gurandyo-bench [scores, areas or queue] [how many random inputs] [where the random numbers start], or lists"
             );
             exit(2)
         }
@@ -279,6 +291,10 @@ fn main() {
     if arguments.next_if(|word| word == "areas").is_some() {
         let count = number(arguments.next(), 20_000) as usize;
         return area_check::run(count, number(arguments.next(), 1));
+    }
+    if arguments.next_if(|word| word == "queue").is_some() {
+        let count = number(arguments.next(), 100_000) as usize;
+        return queue_check::run(count, number(arguments.next(), 1));
     }
     let mut checker = Checker::new();
     match checker.library {

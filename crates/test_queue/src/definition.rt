@@ -86,7 +86,7 @@ fn together(w: Waiting) -> usize {
 }
 
 // Whether a job of either kind waits.
-pub fn waits(w: Waiting) -> bool {
+fn waits(w: Waiting) -> bool {
     0 < together(w)
 }
 
