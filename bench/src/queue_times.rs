@@ -4,7 +4,7 @@ use crate::queue_library::{self, PRESENT};
 use crate::queue_records::{answer_all, bytes_of_call, job_of, Answer, Call, Kind, Queue, RECORD};
 use crate::queues::{Quick, PLACES};
 use crate::random::Random;
-use crate::timing::contest;
+use crate::timing::{contest, print_ratios};
 use std::hint::black_box;
 
 const LISTS: usize = 16;
@@ -174,24 +174,9 @@ fn times_of(inputs: &[Vec<Vec<u8>>]) -> Vec<Vec<f64>> {
         .collect()
 }
 
-fn print_table(name: &str, rows: Vec<Row>) {
-    println!(
-        "\n{name:<36}{:>12}{:>12}{:>20}",
-        "library", "reference", "library/reference"
-    );
+fn print_table(title: &str, rows: Vec<Row>) {
     let (names, inputs): (Vec<_>, Vec<_>) = rows.into_iter().unzip();
-    let times = times_of(&inputs);
-    for (at, name) in names.iter().enumerate() {
-        let own = times[0][at];
-        let (found, ratio) = match times.get(1) {
-            None => ("-".to_string(), "-".to_string()),
-            Some(found) => (
-                format!("{:.1}", found[at]),
-                format!("{:.2}", found[at] / own),
-            ),
-        };
-        println!("{name:<36}{found:>12}{own:>12.1}{ratio:>20}");
-    }
+    print_ratios(title, &names, &times_of(&inputs));
 }
 
 pub fn print_all() {

@@ -4,7 +4,7 @@ use crate::random::Random;
 use crate::score_library::{self, read_answer, write_answer, PRESENT};
 use crate::score_texts::{any_text, some_score};
 use crate::scores::{self, spelled, LONGEST, SCORE_LIMIT, TOTAL_LIMIT};
-use crate::timing::{contest, Contestant};
+use crate::timing::{contest, print_ratios, Contestant};
 use std::hint::black_box;
 
 /// More than a processor keeps in mind of the branches it took.
@@ -53,26 +53,12 @@ fn number_of(bytes: &[u8]) -> i64 {
 }
 
 fn print_table(name: &str, rows: Vec<Row>, reference: Contestant, library: Contestant) {
-    println!(
-        "\n{name:<24}{:>12}{:>12}{:>20}",
-        "library", "reference", "library/reference"
-    );
     let (names, inputs): (Vec<_>, Vec<_>) = rows.into_iter().unzip();
     let times = match PRESENT {
         true => contest(&inputs, &mut [reference, library]),
         false => contest(&inputs, &mut [reference]),
     };
-    for (at, name) in names.iter().enumerate() {
-        let own = times[0][at];
-        let (found, ratio) = match times.get(1) {
-            None => ("-".to_string(), "-".to_string()),
-            Some(found) => (
-                format!("{:.1}", found[at]),
-                format!("{:.2}", found[at] / own),
-            ),
-        };
-        println!("{name:<24}{found:>12}{own:>12.1}{ratio:>20}");
-    }
+    print_ratios(name, &names, &times);
 }
 
 pub fn print_all() {

@@ -4,6 +4,7 @@ use crate::families::{Family, FAMILIES};
 use crate::library::Library;
 use crate::random::Random;
 use crate::{quick, reference};
+use std::fmt::Display;
 use std::hint::black_box;
 use std::time::Instant;
 
@@ -106,6 +107,25 @@ fn library_columns(times: &[Vec<f64>], size: usize) -> [String; 3] {
                 format!("{ratio:.2}"),
             ]
         }
+    }
+}
+
+/// A row for each name: nanoseconds of the library, if it was timed, and of the reference before it, and their ratio.
+pub fn print_ratios(title: &str, names: &[impl Display], times: &[Vec<f64>]) {
+    println!(
+        "\n{title:<36}{:>12}{:>12}{:>20}",
+        "library", "reference", "library/reference"
+    );
+    for (at, name) in names.iter().enumerate() {
+        let own = times[0][at];
+        let (found, ratio) = match times.get(1) {
+            None => ("-".to_string(), "-".to_string()),
+            Some(found) => (
+                format!("{:.1}", found[at]),
+                format!("{:.2}", found[at] / own),
+            ),
+        };
+        println!("{name:<36}{found:>12}{own:>12.1}{ratio:>20}");
     }
 }
 
