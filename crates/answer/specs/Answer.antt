@@ -68,7 +68,7 @@ pub data Said : Type 0 where
 
 abbrev pub said : Answer → Said
 said Accepted = accepted
-said (Refused ground place) = refused (number_of ground) place
+said (Refused reason place) = refused (number_of reason) place
 
 -- A ground is given if its condition holds; otherwise the later ones are looked at.
 abbrev pub given : Bool → Ground → Place → Answer → Answer

@@ -1,10 +1,12 @@
 // What every call answers: accepted, or refused on a numbered ground at a place.
+#![tactic(auto)]
+
 ghost use Rattle.std.specs.Prelude.{◌≡◌};
 ghost use Rattle.answer.specs.Answer.{number_of};
 ghost use Rattle.answer.specs.declared.Answer.TheVariants as answer;
 
 // The grounds for turning a call down, by rising number. A call is judged by them in the order of the papers, which is not that of the numbers.
-#[derive(Drop)]
+#[derive(Clone, Copy)]
 pub enum Ground {
     TextLength,
     UnknownByte,
@@ -35,7 +37,7 @@ pub enum Ground {
 }
 
 // Where a ground was met: a byte position of Q or of T, counted from 0, a seed number, or nowhere that could be named.
-#[derive(Drop)]
+#[derive(Clone, Copy)]
 pub enum Place {
     ByteInQ(usize),
     ByteInT(usize),
@@ -43,24 +45,27 @@ pub enum Place {
     Nothing,
 }
 
-#[derive(Drop)]
+#[derive(Clone, Copy)]
 pub enum Answer {
     Accepted,
     Refused { ground: Ground, place: Place },
 }
 
 // A refusal on a ground at a place.
-pub fn refused(ground: Ground, place: Place) -> Answer
-    ensures { result ≡ answer.Refused ground place }
+pub fn refused(reason: Ground, place: Place) -> Answer
+    ensures { result ≡ answer.Refused reason place }
 {
-    Answer::Refused { ground, place }
+    Answer::Refused {
+        ground: reason,
+        place,
+    }
 }
 
 // The number that stands for a ground in what is printed.
-pub fn number(ground: Ground) -> usize
-    ensures { result ≡ number_of ground }
+pub fn number(reason: Ground) -> usize
+    ensures { result ≡ number_of reason }
 {
-    match ground {
+    match reason {
         Ground::TextLength => 1,
         Ground::UnknownByte => 2,
         Ground::ClosesNothing => 3,

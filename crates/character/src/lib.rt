@@ -1,9 +1,11 @@
 // What one character of a text means, and what a reader of structure needs of it.
+#![tactic(auto)]
+
 ghost use Rattle.std.specs.Prelude.{◌≡◌};
 ghost use Rattle.character.specs.Character.{meaning_of, role_in};
 
 // The ten outcomes: four openings, four closings, unpaired, refused.
-#[derive(Drop)]
+#[derive(Clone, Copy)]
 pub enum Meaning {
     OpeningAngle,
     ClosingAngle,
@@ -18,7 +20,7 @@ pub enum Meaning {
 }
 
 // What a reader of structure needs of a meaning, whatever kind a bracket is of.
-#[derive(Drop)]
+#[derive(Clone, Copy)]
 pub enum Role {
     Unpaired,
     Opening,
@@ -27,6 +29,7 @@ pub enum Role {
 }
 
 // One arm for each number: an arm for neighbours would be a range, and would not tell which of them it has.
+#[tactic(auto, unfolding(crate::specs::Character::meaning_of))]
 pub fn meaning_of(byte: u8) -> Meaning
     ensures { result ≡ meaning_of byte }
 {

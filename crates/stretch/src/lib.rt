@@ -1,4 +1,6 @@
 // Stretches: the part of a text that spells a run of nodes.
+#![tactic(auto)]
+
 mod search;
 
 ghost use Rattle.std.specs.Prelude.{◌≡◌};
@@ -22,6 +24,7 @@ pub fn part(text: &[u8], a: usize, b: usize) -> &[u8]
 }
 
 // Whether the nodes a to b of the text are a stretch.
+#[tactic(auto, unfolding(crate::specs::Stretch::check_of))]
 pub fn check(text: &[u8], a: usize, b: usize) -> Answer
     ensures { result ≡ check_of text.now a b }
 {

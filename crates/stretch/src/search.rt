@@ -8,7 +8,7 @@ use character::{Role, meaning_of, role_in};
 use tree::read;
 
 // How far a scan has come: the byte it stands at, the nodes that end before it, and the bytes of those from node a on.
-#[derive(Drop)]
+#[derive(Clone, Copy)]
 pub struct Scan {
     pub at: usize,
     pub nodes: usize,
@@ -16,7 +16,7 @@ pub struct Scan {
 }
 
 // What is answered of a run of nodes, and the bytes that spell it: none where it is refused.
-#[derive(Drop)]
+#[derive(Clone, Copy)]
 pub struct Located {
     pub answer: Answer,
     pub from: usize,

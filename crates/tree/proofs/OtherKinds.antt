@@ -76,6 +76,7 @@ around a b w =
 
 -- A pair of two kinds is a closing bracket with a partner of another kind.
 unlike_closes : (r : Run) → Meant r → {k : ℕ} → Unlike r k → ClosesOtherKindAt (spell r) k
+unlike_closes end m {k = k} x'' = elim x'' [ ]
 unlike_closes (pair o i c r) m (own h) =
     record {
       front = o ∷ spell i;

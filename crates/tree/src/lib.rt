@@ -1,4 +1,6 @@
 // A text read into a tree.
+#![tactic(auto)]
+
 mod compare;
 mod dot_bracket;
 mod kinds;
@@ -21,19 +23,20 @@ use unknown::first_refused;
 
 // The nodes of a structure, numbered from 0 in postfix order: how many, the leftmost leaf of each, and the kind of each below the added root, 0 an
 // unpaired base and 1 a base pair. The added root is the last.
-#[derive(Drop)]
+#[derive(Clone, Copy)]
 pub struct Tree {
     pub n: usize,
     pub left: [u8; 256],
     pub kinds: [u8; 256],
 }
 
-#[derive(Drop)]
+#[derive(Clone, Copy)]
 pub struct TreeRead {
     pub answer: Answer,
     pub tree: Tree,
 }
 
+#[tactic(auto, unfolding(crate::specs::Reading::bad_length))]
 fn bad_length(len: usize) -> bool
     ensures { result ≡ bad_length len }
 {
@@ -61,11 +64,11 @@ pub fn kinds_with_root(tree: Tree) -> [u8; 256]
     kinds
 }
 
-fn refused(ground: Ground, at: usize) -> TreeRead
-    ensures { result ≡ read_of (Reading.text_refused ground at) }
+fn refused(reason: Ground, at: usize) -> TreeRead
+    ensures { result ≡ read_of (Reading.text_refused reason at) }
 {
     TreeRead {
-        answer: answer::refused(ground, Place::ByteInQ(at)),
+        answer: answer::refused(reason, Place::ByteInQ(at)),
         tree: single_tree(),
     }
 }

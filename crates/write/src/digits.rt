@@ -3,7 +3,7 @@ ghost use Rattle.std.specs.Prelude.{◌≡◌, ◌≤◌, length, drop};
 ghost use Rattle.write.specs.Decimal.{decimal};
 
 // The digits of a number in the last of twenty places, from the first digit on.
-#[derive(Drop)]
+#[derive(Clone, Copy)]
 pub struct Digits {
     pub places: [u8; 20],
     pub first: usize,

@@ -1,4 +1,6 @@
 // Bytes put to a lent output, each thing whole or not at all.
+#![tactic(auto)]
+
 mod digits;
 
 ghost use Rattle.std.specs.Prelude.{◌≡◌, ◌+◌, leb};
@@ -9,7 +11,7 @@ use answer::Answer;
 use digits::digits_of;
 
 // What writing answers, and how many bytes it wrote.
-#[derive(Drop)]
+#[derive(Clone, Copy)]
 pub struct Written {
     pub answer: Answer,
     pub length: usize,
