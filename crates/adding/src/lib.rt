@@ -1,4 +1,6 @@
 // A list of pairs judged as the next seed of a table, and the table with it.
+#![tactic(auto)]
+
 mod appending;
 mod limits;
 
@@ -16,7 +18,7 @@ use table::Table;
 use tree::Tree;
 
 // What is answered of a list, and the table with it: as it was beside a refusal.
-#[derive(Drop)]
+#[derive(Clone, Copy)]
 pub struct Grown {
     pub answer: Answer,
     pub table: Table,

@@ -18,7 +18,7 @@ use Rattle.seed.specs.Tab.{tab}
 use Rattle.seed.specs.Paths.{Child}
 use Rattle.seed.specs.Seed.{◌∈◌, Rising, Span, Pattern, qs, ts, q_of, last_pair}
 use Rattle.seed.specs.Area.{Box, FitsAt, Area}
-use Rattle.seed.specs.AreaList.{side, on_left, on_right, on_top, on_subtree, areas, first_below, box_at, begins, box_row, boxes}
+use Rattle.seed.specs.AreaList.{side, on_left, on_right, on_top, on_subtree, first_below, box_at, begins, box_row, boxes}
 use Rattle.seed.specs.declared.Pair.{Pair}
 use Rattle.seed.proofs.Tabs.{length_tab, get_d_tab}
 use Rattle.seed.proofs.Trees.{own, nest}

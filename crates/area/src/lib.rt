@@ -1,5 +1,7 @@
 // The open areas of a seed. Each node is given the number of its gap once; then two nodes fit exactly if their gaps are the same and not 0, so that a
 // pair of nodes costs one comparison. Below, g and h are the gaps of the nodes of Q and of T, by their numbers.
+#![tactic(auto)]
+
 mod paper;
 
 ghost use Rattle.std.specs.Prelude.{◌≡◌, ◌≤◌, ◌<◌, length};
@@ -24,20 +26,21 @@ use tree::Tree;
 use write::put_word;
 
 // By rising a, or in the paper's order of work: by rising q of the nearest pair above the area, and under one pair from right to left.
-#[derive(Drop)]
+#[derive(Clone, Copy)]
 pub enum Order {
     RisingA,
     Paper,
 }
 
 // What is answered, and how many areas there are: 0 if they are refused.
-#[derive(Drop)]
+#[derive(Clone, Copy)]
 pub struct Listed {
     pub answer: Answer,
     pub count: usize,
 }
 
 // Whether nodes with these gaps fit.
+#[tactic(auto, unfolding(crate::specs::inner::Boxes::same_gap))]
 fn meets(x: usize, y: usize) -> bool
     ensures { result ≡ boxes.same_gap x y }
 {

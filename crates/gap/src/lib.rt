@@ -1,5 +1,7 @@
 // The gaps of a seed. Each node of a tree is given the number of the gap that it lies in, by a scan of the seed's nodes in that tree: then a pair of
 // nodes fits the seed exactly if their gaps are the same and not 0.
+#![tactic(auto)]
+
 ghost use Rattle.std.specs.Prelude.{◌≡◌, ◌≤◌, length};
 ghost use Rattle.seed.specs.Pairs.{pairs_of, Held};
 ghost use Rattle.gap.specs.GapNumbers as gaps;
@@ -8,13 +10,14 @@ use seed::{pair_count, side};
 use tree::Tree;
 
 // The gaps of the nodes of Q and of T, by their numbers; 0 behind the last node.
-#[derive(Drop)]
+#[derive(Clone, Copy)]
 pub struct Gaps {
     pub q: [usize; 256],
     pub t: [usize; 256],
 }
 
 // What a node on the left or on the right of another counts.
+#[tactic(auto, unfolding(crate::specs::GapNumbers::weight))]
 fn weight(side: u8) -> usize
     ensures { result ≡ gaps.weight side }
 {

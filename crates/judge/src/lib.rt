@@ -1,4 +1,6 @@
 // Judging a list of pairs that is to be a seed: grounds 15, 25 and 16 to 19, in time that grows with the nodes and the pairs.
+#![tactic(auto)]
+
 mod ancestry;
 mod border;
 

@@ -1,4 +1,6 @@
 // The seeds given out, by number: document 01's table, held in flat arrays.
+#![tactic(auto)]
+
 mod parts;
 
 ghost use Rattle.std.specs.Prelude.{◌≡◌, length, set};
@@ -12,7 +14,7 @@ use seed::{Pair, last_pair};
 
 // Seed i, counted from 0, has the pairs from bounds[i] up to bounds[i + 1], and bounds[0] is 0. What the arrays hold beyond the seeds and
 // the pairs that are counted is free.
-#[derive(Drop)]
+#[derive(Clone, Copy)]
 pub struct Table {
     pub seeds: usize,
     pub pairs: usize,
@@ -24,7 +26,7 @@ pub struct Table {
 }
 
 // What a row says of its seed without listing the pairs.
-#[derive(Drop)]
+#[derive(Clone, Copy)]
 pub struct Summary {
     pub score: i32,
     pub last: Pair,

@@ -1,0 +1,14 @@
+use Rattle.area.proofs.Walks.{by_rising, by_paper, wrote_as, room_as}
+use Rattle.area.proofs.write_by.Goals as goal
+
+pub write-requires : goal.write-requires
+write-requires c = (c.requires.0.trees.few_g, c.requires.0.trees.few_h, room_as (by_rising _ _ _ _ _ c.in-RisingA.is) c.requires.1)
+
+pub write-requires-in-Paper : goal.write-requires-in-Paper
+write-requires-in-Paper c = (c.requires.0, room_as (by_paper _ _ _ _ _ c.in-Paper.is) c.requires.1)
+
+pub returns-in-RisingA : goal.returns-in-RisingA
+returns-in-RisingA c = wrote_as _ _ _ _ (by_rising _ _ _ _ _ c.in-RisingA.is) c.write.ensures
+
+pub returns-in-Paper : goal.returns-in-Paper
+returns-in-Paper c = wrote_as _ _ _ _ (by_paper _ _ _ _ _ c.in-Paper.is) c.write-in-Paper.ensures

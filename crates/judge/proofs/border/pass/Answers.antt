@@ -1,0 +1,14 @@
+use Rattle.std.proofs.Common.{arith}
+use Rattle.judge.proofs.Tops.{tops_ups}
+use Rattle.judge.proofs.Climbs.{pass_listed}
+use Rattle.judge.proofs.border.pass.Goals as goal
+
+pub kept-left-requires : goal.kept-left-requires
+kept-left-requires c =
+    let pre = c.requires in
+    (tops_ups pre.listed.tree pre.past.highest, omega (arith, pre.past.highest.few, pre.past.room, c.type_inv.xs c.args.place))
+
+pub climb-requires : goal.climb-requires
+climb-requires c =
+    let pre = c.requires in
+    pass_listed pre.listed _ pre.more pre.past (omega (arith, c.type_inv.xs c.args.place)) (rw c.leaf_at.ensures at c.kept-left.ensures)
