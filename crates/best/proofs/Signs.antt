@@ -28,7 +28,7 @@ module _ (z : ℤ) (n : ℕ) (f : SFits w32 z) (h : n ≤ 64000000) where
 
   -- What the machine adds is the score and the total.
   pub sum_plain : to_z w64 (of_z w64 (to_z w32 (of_z w32 z))) +ℤ to_z w64 n ≡ z +ℤ pos n
-  sum_plain = ap₂ ◌+ℤ◌ (ap (λ (x : ℤ). to_z w64 (of_z w64 x)) (to_z-of_z f) ∙ to_z-of_z (sfits_widen tt f)) (to_z_pos w64 (omega arith))
+  sum_plain = ap₂ ◌+ℤ◌ (ap (λ (x : ℤ). to_z w64 (of_z w64 x)) (to_z-of_z f) ∙ to_z-of_z {w = w64} (sfits_widen {w = w32} {w' = w64} tt f)) (to_z_pos w64 (omega arith))
 
   pub sum_back : to_z w64 (of_z w64 (to_z w64 (of_z w64 (to_z w32 (of_z w32 z))) +ℤ to_z w64 n)) ≡ z +ℤ pos n
   sum_back = ap (λ (x : ℤ). to_z w64 (of_z w64 x)) sum_plain ∙ to_z-of_z sum_fits

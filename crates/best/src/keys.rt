@@ -6,7 +6,7 @@ ghost use Rattle.seed.specs.Tab.{tab};
 ghost use Rattle.best.specs.inner.Scratch.{Lowest, key_at};
 
 // The total of a chain and the mask of its numbers.
-#[derive(Drop)]
+#[derive(Clone, Copy)]
 pub struct Stored {
     pub total: u64,
     pub mask: u64,

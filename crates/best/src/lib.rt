@@ -1,4 +1,6 @@
 // The best chain of a table's seeds, on a lent scratch.
+#![tactic(auto)]
+
 mod keys;
 mod scratch;
 
@@ -16,7 +18,7 @@ use tree::Tree;
 pub const SCRATCH: usize = 256;
 
 // The total of the best chain, and for each seed number, counted from 0, whether the chain has it.
-#[derive(Drop)]
+#[derive(Clone, Copy)]
 pub struct Best {
     pub answer: Answer,
     pub total: u64,

@@ -1,4 +1,6 @@
 // Masks: sets of the numbers 0 to 63, as the bits of a u64.
+#![tactic(auto)]
+
 ghost use Rattle.std.specs.Prelude.{◌≡◌};
 ghost use Rattle.masks.specs.Masks.{Highest, minus};
 

@@ -1,4 +1,6 @@
 // How the present seeds of a table stand to one another.
+#![tactic(auto)]
+
 mod order;
 mod stands;
 
@@ -11,7 +13,7 @@ use tree::Tree;
 
 // The numbers of the present seeds, counted from 0, by rising q of the last pair and then by number, as many as count says; and for each the
 // masks of those before it that stand left of it and under it.
-#[derive(Drop)]
+#[derive(Clone, Copy)]
 pub struct Standing {
     pub count: usize,
     pub numbers: [u8; 64],

@@ -12,14 +12,14 @@ use seed::{Pair, last_pair, leaf_at};
 use table::nodes_of;
 
 // Whether a seed stands left of another, and whether under it.
-#[derive(Drop)]
+#[derive(Clone, Copy)]
 pub struct Stand {
     pub left: bool,
     pub under: bool,
 }
 
 // Which seeds stand left of another, and which under it.
-#[derive(Drop)]
+#[derive(Clone, Copy)]
 pub struct Masks {
     pub left: u64,
     pub under: u64,
