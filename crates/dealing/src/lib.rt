@@ -1,4 +1,6 @@
 // Two texts and a deck to two trees and a table: what an opening rests on.
+#![tactic(auto)]
+
 mod seeds;
 pub mod texts;
 
@@ -13,7 +15,7 @@ use texts::read_both;
 use tree::{Tree, single_tree};
 
 // What is answered, two trees, and the seeds of the deck, all present: the trees of "." and "." without seeds beside a refusal.
-#[derive(Drop)]
+#[derive(Clone, Copy)]
 pub struct Dealt {
     pub answer: Answer,
     pub q: Tree,

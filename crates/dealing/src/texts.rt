@@ -6,7 +6,7 @@ use answer::{Answer, Place, refused};
 use tree::{Tree, read};
 
 // What is answered of two texts, and their trees: those of "." and "." beside a refusal.
-#[derive(Drop)]
+#[derive(Clone, Copy)]
 pub struct TwoTrees {
     pub answer: Answer,
     pub q: Tree,

@@ -1,4 +1,6 @@
 // Decks: seeds in bytes, read into a table.
+#![tactic(auto)]
+
 mod bytes;
 mod layout;
 mod walk;
@@ -11,7 +13,7 @@ use table::{Table, empty};
 use walk::{stopped, walk};
 
 // What reading answers, and the table of the seeds: without any where it is refused.
-#[derive(Drop)]
+#[derive(Clone, Copy)]
 pub struct DeckRead {
     pub answer: Answer,
     pub table: Table,

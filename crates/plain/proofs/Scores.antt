@@ -25,7 +25,7 @@ unsigned_below (negsuc n) h = omega arith
 
 -- A score as the code widens it to 64 bits; below zero, all of the numbers of 32 bits are added.
 pub wide_score : {z : ℤ} → SFits w32 z → to_z w64 (of_z w64 (to_z w32 (of_z w32 z))) ≡ z
-wide_score f = ap (λ (x : ℤ). to_z w64 (of_z w64 x)) (to_z-of_z f) ∙ to_z-of_z (sfits_widen tt f)
+wide_score f = ap (λ (x : ℤ). to_z w64 (of_z w64 x)) (to_z-of_z f) ∙ to_z-of_z {w = w64} (sfits_widen {w = w32} {w' = w64} tt f)
 
 lifted : (z : ℤ) → mag z < 2147483648 → lt_z z (pos 0) ≡ true → z +ℤ pos 4294967296 ≡ pos (unsigned z)
 unfolding unsigned

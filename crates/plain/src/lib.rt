@@ -1,4 +1,6 @@
 // The deck of present seeds, written in plain form.
+#![tactic(auto)]
+
 mod parts;
 mod records;
 mod size;

@@ -7,7 +7,7 @@ ghost use Rattle.plain.specs.inner.Writing.{size_of};
 use table::{Table, nodes_of};
 
 // How many seeds are to be written, and how many pairs.
-#[derive(Drop)]
+#[derive(Clone, Copy)]
 pub struct Size {
     pub seeds: usize,
     pub pairs: usize,
