@@ -12,6 +12,7 @@ use answer::{Answer, Ground, Place, refused};
 use table::{in_range, summary_at};
 
 // Whether the number is one of 1 to seeds.
+#[tactic(auto, unfolding(table::specs::Rows::given_out))]
 pub fn given_out(seeds: usize, number: usize) -> bool
     ensures { result ≡ given_out seeds number }
 {
@@ -28,6 +29,7 @@ fn same(a: bool, b: bool) -> bool
 }
 
 // Ground 20, the last of every call that adds to the count.
+#[tactic(auto, unfolding(crate::specs::State::count_answer))]
 fn judge_count(changes: usize) -> Answer
     ensures { result ≡ count_answer changes }
 {

@@ -1,4 +1,6 @@
 // A session on two structures: seeds are added, withdrawn, brought back and rescored, and the best chain of those present is worked out.
+#![tactic(auto)]
+
 mod changing;
 mod judging;
 
@@ -23,7 +25,7 @@ use table::{Summary, Table, empty, summary_at};
 use tree::Tree;
 use write::Written;
 
-#[derive(Drop)]
+#[derive(Clone, Copy)]
 pub struct Session {
     q: Tree,
     t: Tree,
@@ -32,14 +34,14 @@ pub struct Session {
 }
 
 // What a call that may change a session answers, and the session that it hands over.
-#[derive(Drop)]
+#[derive(Clone, Copy)]
 pub struct Changed {
     pub answer: Answer,
     pub session: Session,
 }
 
 // What an add answers, the number that the seed got, and the session that is handed over.
-#[derive(Drop)]
+#[derive(Clone, Copy)]
 pub struct Added {
     pub answer: Answer,
     pub number: usize,
@@ -47,7 +49,7 @@ pub struct Added {
 }
 
 // What is answered of a seed number, and what its row says: nothing beside a refusal.
-#[derive(Drop)]
+#[derive(Clone, Copy)]
 pub struct Shown {
     pub answer: Answer,
     pub row: Summary,

@@ -92,9 +92,9 @@ unmoved_seeds start h later q =
     let same_t = (trees_stay start later).1 ∙ sym (trees_stay start h).1 in
     λ j. seeds_of (leaves_of (same_q j)) (leaves_of (same_t j)) (unmoved_rows q j)
 
-reached_within : {o : Outcome} {s : Session} {h later : List Event} → UnmovedSince o.state h later → Reached o s later → (earlier : Session) × Reached o earlier h
+reached_within : {o : Outcome} {h : List Event} {s : Session} {later : List Event} → UnmovedSince o.state h later → Reached o s later → (earlier : Session) × Reached o earlier h
 reached_within {s = s} at_once w = (s, w)
-reached_within (and_one q e) w = reached_within q (session_before w).1
+reached_within {s = s} (and_one q e) w = reached_within {s = (session_before w).0} q (session_before w).1
 
 -- The state that the call met.
 abbrev here : Outcome → List Event → State

@@ -1,4 +1,6 @@
 // The two calls on lent memory: a seed is added from a lent slice of pairs, and rescored in the session that the caller holds.
+#![tactic(auto)]
+
 mod listing;
 
 ghost use Rattle.std.specs.Prelude.{◌≡◌};

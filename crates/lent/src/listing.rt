@@ -8,13 +8,14 @@ use chain::{Added, Session};
 use seed::Pair;
 
 // The q and the t of `count` pairs: of 1,025 at most, which is one more than a session ever takes.
-#[derive(Drop)]
+#[derive(Clone, Copy)]
 pub struct NodeLists {
     pub count: usize,
     pub qs: [u8; 1025],
     pub ts: [u8; 1025],
 }
 
+#[tactic(auto, unfolding(crate::specs::inner::Listing::no_nodes))]
 fn no_nodes() -> NodeLists
     ensures { result ≡ no_nodes }
 {
@@ -26,6 +27,7 @@ fn no_nodes() -> NodeLists
 }
 
 // One pair more, where there is room.
+#[tactic(auto, unfolding(crate::specs::inner::Listing::with_one_more))]
 fn with_pair(nodes: NodeLists, q: u8, t: u8) -> NodeLists
     ensures { result ≡ with_one_more nodes q t }
 {
