@@ -9,7 +9,7 @@ use lib.Seq.{take_at}
 use lib.IntN.{ℤ, pos, negsuc, nat_abs}
 use lib.Signed.{lt_z}
 use borrow.Author.Tests.{le-ltb}
-use Rattle.write.specs.Decimal.{bytes, decimal}
+use Rattle.write.specs.Decimal.{decimal}
 use Rattle.write.proofs.Decimals.{length_decimal}
 use Rattle.decimal.specs.Score.{two_digits, unsigned_text, number_text}
 use Rattle.decimal.specs.inner.Texts.{signed_text, text_room, text_laid}

@@ -103,7 +103,7 @@ beyond z = lt_z z (negsuc 63999999) || lt_z (pos 64000000) z
 
 -- Both grounds have no place, and beside them stands the length 0.
 abbrev pub not_written : Ground → Written
-not_written ground = record { answer = Refused ground Nothing; length = 0 }
+not_written reason = record { answer = Refused reason Nothing; length = 0 }
 
 -- What writing a number promises, of its answer and of the output before and after: 11, then 22 or the text's length; nothing is touched beside a refusal, and no byte beyond the text.
 pub record WritesNumber (z : ℤ) (before after : List ℕ) (r : Written) : Type 0 where

@@ -1,4 +1,6 @@
 // Scores and totals as texts with two decimals: read, and written.
+#![tactic(auto)]
+
 mod form;
 mod text;
 
@@ -13,7 +15,7 @@ use text::text_of;
 use write::{Written, put_word};
 
 // What reading a score text answers, and its score in hundredths: 0 beside a refusal.
-#[derive(Drop)]
+#[derive(Clone, Copy)]
 pub struct ScoreRead {
     pub answer: Answer,
     pub score: i32,
@@ -96,11 +98,11 @@ fn magnitude(number: i64) -> u64
 }
 
 // What writing answers on a ground.
-fn not_written(ground: Ground) -> Written
-    ensures { result ≡ not_written ground }
+fn not_written(reason: Ground) -> Written
+    ensures { result ≡ not_written reason }
 {
     Written {
-        answer: refused(ground, Place::Nothing),
+        answer: refused(reason, Place::Nothing),
         length: 0,
     }
 }

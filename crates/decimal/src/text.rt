@@ -10,7 +10,7 @@ use write::{put_decimal, put_word};
 pub const TEXT: usize = 24;
 
 // A text, and how many bytes it has: what stands behind it is zero.
-#[derive(Drop)]
+#[derive(Clone, Copy)]
 pub struct NumberText {
     pub bytes: [u8; TEXT],
     pub length: usize,

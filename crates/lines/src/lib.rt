@@ -1,4 +1,6 @@
 // The printed lines of a result and of a refusal.
+#![tactic(auto)]
+
 mod line;
 
 ghost use Rattle.std.specs.Prelude.{◌≡◌};
@@ -12,7 +14,7 @@ use line::{put_refusal, put_result};
 pub const ROOM: usize = 256;
 
 // Lines, and how many bytes they have: what stands behind them is zero.
-#[derive(Drop)]
+#[derive(Clone, Copy)]
 pub struct Lines {
     pub bytes: [u8; ROOM],
     pub length: usize,

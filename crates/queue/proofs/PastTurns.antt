@@ -2,7 +2,7 @@
 use mathlib.Core.Path.{◌≡◌, refl, sym, subst⁻¹, ◌∙◌}
 use mathlib.Core.Bool.{Bool, true, false, cond, not, ◌&&◌, ◌||◌, true≢false}
 use mathlib.Core.List.{List, [], ◌∷◌, ◌++◌}
-use Prim.Native.Nat.{ℕ, suc, ◌+◌, ◌≤◌, ◌<◌}
+use Prim.Native.Nat.{ℕ, suc, ◌≤◌, ◌<◌}
 use native.Mathlib.Omega.{arith}
 use lib.ListN.{length, drop, length-append, length-drop}
 use lib.Dec.{leb, eqb}
@@ -12,7 +12,7 @@ use Rattle.answer.specs.declared.Answer.{Answer}
 use Rattle.answer.specs.declared.Answer.TheVariants.{Accepted, Refused}
 use Rattle.queue.specs.Jobs.{Job, PastTurn, QueueState, started, waiting, with_waiting, waiting_count, offer_answer, after_offer, took_urgent, counts, last_three, is_empty, passes_urgent, oldest, turn_of, after_turn}
 use Rattle.queue.specs.Calls.{Call, offer, turn, after_call, state_after, state_from_start}
-use Rattle.queue.specs.Handing.{in_row, Orderly}
+use Rattle.queue.specs.Handing.{turns_in_row, Orderly}
 use Rattle.queue.specs.declared.Kind.{Kind}
 use Rattle.queue.specs.declared.Kind.TheVariants.{Urgent, Ordinary}
 
@@ -21,8 +21,8 @@ neither true b e = absurd (true≢false e)
 neither false b e = (refl, e)
 
 -- The rule looks at the last three turns: they all count exactly if three are in a row.
-pub row_tells : (past : List PastTurn) → leb 3 (in_row past) ≡ last_three past
-unfolding in_row last_three
+pub row_tells : (past : List PastTurn) → leb 3 (turns_in_row past) ≡ last_three past
+unfolding turns_in_row last_three
 row_tells [] = refl
 row_tells (a ∷ []) = one (counts a)
   where
@@ -35,7 +35,7 @@ row_tells (a ∷ b ∷ []) = two (counts a) (counts b)
     two true true = refl
     two true false = refl
     two false y = refl
-row_tells (a ∷ b ∷ c ∷ earlier) = three (counts a) (counts b) (counts c) (in_row earlier)
+row_tells (a ∷ b ∷ c ∷ earlier) = three (counts a) (counts b) (counts c) (turns_in_row earlier)
   where
     three : (x y z : Bool) (n : ℕ) → leb 3 (cond x (suc (cond y (suc (cond z (suc n) 0)) 0)) 0) ≡ x && y && z
     three true true true n = le-leb 3 (suc (suc (suc n))) (omega arith)
@@ -44,12 +44,12 @@ row_tells (a ∷ b ∷ c ∷ earlier) = three (counts a) (counts b) (counts c) (
     three false y z n = refl
 
 -- Where no more than three are in a row, they all count exactly if just three are.
-pub row_three : (s : QueueState) → Orderly s → eqb (in_row s.past) 3 ≡ last_three s.past
-row_three s o = go (leb 3 (in_row s.past)) refl ∙ row_tells s.past
+pub row_three : (s : QueueState) → Orderly s → eqb (turns_in_row s.past) 3 ≡ last_three s.past
+row_three s o = go (leb 3 (turns_in_row s.past)) refl ∙ row_tells s.past
   where
-    go : (b : Bool) → leb 3 (in_row s.past) ≡ b → eqb (in_row s.past) 3 ≡ leb 3 (in_row s.past)
-    go true e = let h = leb-true 3 (in_row s.past) e in eq-eqb (in_row s.past) 3 (omega (arith, o.three)) ∙ sym e
-    go false e = let h = leb-false 3 (in_row s.past) e in ne_eqb (in_row s.past) 3 (λ x. omega arith) ∙ sym e
+    go : (b : Bool) → leb 3 (turns_in_row s.past) ≡ b → eqb (turns_in_row s.past) 3 ≡ leb 3 (turns_in_row s.past)
+    go true e = let h = leb-true 3 (turns_in_row s.past) e in eq-eqb (turns_in_row s.past) 3 (omega (arith, o.three)) ∙ sym e
+    go false e = let h = leb-false 3 (turns_in_row s.past) e in ne_eqb (turns_in_row s.past) 3 (λ x. omega arith) ∙ sym e
 
 -- A list without elements has length 0.
 pub empty_length : (jobs : List Job) → is_empty jobs ≡ eqb (length jobs) 0
@@ -57,9 +57,9 @@ empty_length [] = refl
 empty_length (job ∷ jobs) = sym (ne_eqb (suc (length jobs)) 0 (λ e. omega arith))
 
 -- Urgent jobs that wait are passed over only after three turns in a row.
-pub all_three : (s : QueueState) → is_empty s.urgent ≡ false → passes_urgent s ≡ true → 3 ≤ in_row s.past
+pub all_three : (s : QueueState) → is_empty s.urgent ≡ false → passes_urgent s ≡ true → 3 ≤ turns_in_row s.past
 unfolding passes_urgent
-all_three s u p = leb-true 3 (in_row s.past) (row_tells s.past ∙ go (is_empty s.urgent) u p)
+all_three s u p = leb-true 3 (turns_in_row s.past) (row_tells s.past ∙ go (is_empty s.urgent) u p)
   where
     go : (b : Bool) → b ≡ false → b || last_three s.past ≡ true → last_three s.past ≡ true
     go true e h = absurd (true≢false e)
@@ -79,11 +79,11 @@ module _ (s : QueueState) (passed : passes_urgent s ≡ true) where
   unfolding after_turn
   ordinary_ordinary = rw passed
 
-  pub ordinary_row : in_row (after_turn s).past ≡ 0
-  unfolding after_turn turn_of oldest in_row
+  pub ordinary_row : turns_in_row (after_turn s).past ≡ 0
+  unfolding after_turn turn_of oldest turns_in_row
   ordinary_row = rw passed (go s.ordinary)
     where
-      go : (jobs : List Job) → cond (took_urgent (oldest Ordinary jobs) && not (is_empty s.ordinary)) (suc (in_row s.past)) 0 ≡ 0
+      go : (jobs : List Job) → cond (took_urgent (oldest Ordinary jobs) && not (is_empty s.ordinary)) (suc (turns_in_row s.past)) 0 ≡ 0
       go [] = refl
       go (job ∷ jobs) = refl
 
@@ -93,9 +93,9 @@ module _ (s : QueueState) (due : passes_urgent s ≡ false) where
   unfolding passes_urgent
   some_urgent = (neither (is_empty s.urgent) (last_three s.past) due).0
 
-  pub not_three : in_row s.past < 3
+  pub not_three : turns_in_row s.past < 3
   unfolding passes_urgent
-  not_three = leb-false 3 (in_row s.past) (row_tells s.past ∙ (neither (is_empty s.urgent) (last_three s.past) due).1)
+  not_three = leb-false 3 (turns_in_row s.past) (row_tells s.past ∙ (neither (is_empty s.urgent) (last_three s.past) due).1)
 
   pub urgent_turn : turn_of s ≡ oldest Urgent s.urgent
   unfolding turn_of
@@ -109,11 +109,11 @@ module _ (s : QueueState) (due : passes_urgent s ≡ false) where
   unfolding after_turn
   urgent_ordinary = rw due
 
-  pub urgent_row : in_row (after_turn s).past ≡ cond (is_empty s.ordinary) 0 (suc (in_row s.past))
-  unfolding after_turn turn_of oldest in_row
+  pub urgent_row : turns_in_row (after_turn s).past ≡ cond (is_empty s.ordinary) 0 (suc (turns_in_row s.past))
+  unfolding after_turn turn_of oldest turns_in_row
   urgent_row = rw due (go s.urgent some_urgent (is_empty s.ordinary))
     where
-      go : (jobs : List Job) → is_empty jobs ≡ false → (b : Bool) → cond (took_urgent (oldest Urgent jobs) && not b) (suc (in_row s.past)) 0 ≡ cond b 0 (suc (in_row s.past))
+      go : (jobs : List Job) → is_empty jobs ≡ false → (b : Bool) → cond (took_urgent (oldest Urgent jobs) && not b) (suc (turns_in_row s.past)) 0 ≡ cond b 0 (suc (turns_in_row s.past))
       go [] e b = absurd (true≢false e)
       go (job ∷ jobs) e true = refl
       go (job ∷ jobs) e false = refl
@@ -137,11 +137,11 @@ orderly_turn s o = go (passes_urgent s) refl
           waits = rw (urgent_row s e, urgent_ordinary s e) (some s.ordinary);
         }
       where
-        most : (b : Bool) → cond b 0 (suc (in_row s.past)) ≤ 3
+        most : (b : Bool) → cond b 0 (suc (turns_in_row s.past)) ≤ 3
         most true = omega arith
         most false = not_three s e
 
-        some : (jobs : List Job) → 0 < cond (is_empty jobs) 0 (suc (in_row s.past)) → 0 < length jobs
+        some : (jobs : List Job) → 0 < cond (is_empty jobs) 0 (suc (turns_in_row s.past)) → 0 < length jobs
         some [] h = h
         some (job ∷ jobs) h = omega arith
 
@@ -187,7 +187,7 @@ orderly_after (offer kind job ∷ calls) s o = orderly_after calls (after_offer 
 orderly_after (turn ∷ calls) s o = orderly_after calls (after_turn s) (orderly_turn s o)
 
 pub orderly : (calls : List Call) → Orderly (state_from_start calls)
-unfolding state_from_start in_row
+unfolding state_from_start turns_in_row
 orderly calls = orderly_after calls started (record { few = omega arith; three = omega arith; waits = λ h. h })
 
 -- The state after one call more.

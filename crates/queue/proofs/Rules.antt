@@ -9,7 +9,7 @@ use lib.ListN.{length}
 use borrow.Author.Tests.{eqb-true}
 use Rattle.queue.specs.Jobs.{Job, QueueState, waiting_count, is_empty, passes_urgent, oldest, turn_of, after_turn}
 use Rattle.queue.specs.Calls.{Call, state_from_start, jobs_in}
-use Rattle.queue.specs.Handing.{in_row, Orderly}
+use Rattle.queue.specs.Handing.{turns_in_row, Orderly}
 use Rattle.queue.specs.declared.Kind.{Kind}
 use Rattle.queue.specs.declared.Kind.TheVariants.{Urgent, Ordinary}
 use Rattle.queue.specs.declared.Turn.{Turn}
@@ -48,7 +48,7 @@ module _ (s : QueueState) (o : Orderly s) where
   none_wait false p e = urgent_turn s p ∙ oldest_none Urgent s.urgent (omega arith)
 
   -- A row is ended only by an ordinary job that is taken.
-  ends : (b : Bool) → passes_urgent s ≡ b → 0 < in_row s.past → in_row (after_turn s).past ≡ 0 → (job : Job) × (turn_of s ≡ Took Ordinary job.query job.structure)
+  ends : (b : Bool) → passes_urgent s ≡ b → 0 < turns_in_row s.past → turns_in_row (after_turn s).past ≡ 0 → (job : Job) × (turn_of s ≡ Took Ordinary job.query job.structure)
   unfolding oldest
   ends true p some e = go s.ordinary (o.waits some) (ordinary_turn s p)
     where
@@ -57,7 +57,7 @@ module _ (s : QueueState) (o : Orderly s) where
       go (job ∷ jobs) h t = (job, t)
   ends false p some e = absurd (go s.ordinary (o.waits some) (sym (urgent_row s p) ∙ e))
     where
-      go : (jobs : List Job) → 0 < length jobs → cond (is_empty jobs) 0 (suc (in_row s.past)) ≡ 0 → ⊥
+      go : (jobs : List Job) → 0 < length jobs → cond (is_empty jobs) 0 (suc (turns_in_row s.past)) ≡ 0 → ⊥
       go [] h x = omega arith
       go (job ∷ jobs) h x = omega arith
 
@@ -67,5 +67,5 @@ none_exactly history =
     let s = state_from_start history in
     (all_wait s (orderly history) (passes_urgent s) refl, none_wait s (orderly history) (passes_urgent s) refl)
 
-pub row_ends : (history : List Call) → 0 < in_row (state_from_start history).past → in_row (after_turn (state_from_start history)).past ≡ 0 → (job : Job) × (turn_of (state_from_start history) ≡ Took Ordinary job.query job.structure)
+pub row_ends : (history : List Call) → 0 < turns_in_row (state_from_start history).past → turns_in_row (after_turn (state_from_start history)).past ≡ 0 → (job : Job) × (turn_of (state_from_start history) ≡ Took Ordinary job.query job.structure)
 row_ends history = let s = state_from_start history in ends s (orderly history) (passes_urgent s) refl

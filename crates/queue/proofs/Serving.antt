@@ -8,7 +8,7 @@ use lib.ListN.{length, drop}
 use Rattle.queue.specs.Jobs.{Job, QueueState, started, waiting, is_empty, passes_urgent, after_offer, oldest, turn_of, after_turn}
 use Rattle.queue.specs.Calls.{Call, offer, turn, after_call, state_after, state_from_start, turns_in, jobs_in, accepted_by, taken_in}
 use Rattle.queue.specs.Waits.{TakenWithin}
-use Rattle.queue.specs.Handing.{in_row}
+use Rattle.queue.specs.Handing.{turns_in_row}
 use Rattle.queue.specs.declared.Kind.{Kind}
 use Rattle.queue.specs.declared.Kind.TheVariants.{Urgent, Ordinary}
 use Rattle.queue.specs.declared.Turn.TheVariants.{Took}
@@ -70,7 +70,7 @@ some_wait (a ∷ ahead) rest job = refl
 
 -- The job of this kind behind those ahead is served within n turns, if its bound is no more and so many turns are among the calls.
 abbrev OrdinaryServed : List Call → QueueState → ℕ → Type 0
-OrdinaryServed calls s n = (ahead rest : List Job) (job : Job) → s.ordinary ≡ ahead ++ job ∷ rest → 4 * length ahead + (3 - in_row s.past) + 1 ≤ n → n ≤ turns_in calls → Served n Ordinary ahead job calls s
+OrdinaryServed calls s n = (ahead rest : List Job) (job : Job) → s.ordinary ≡ ahead ++ job ∷ rest → 4 * length ahead + (3 - turns_in_row s.past) + 1 ≤ n → n ≤ turns_in calls → Served n Ordinary ahead job calls s
 
 module _ (calls : List Call) (s : QueueState) (m : ℕ) (later : OrdinaryServed calls (after_turn s) m) where
   ordinary_next : (b : Bool) → passes_urgent s ≡ b → OrdinaryServed (turn ∷ calls) s (suc m)
@@ -80,7 +80,7 @@ module _ (calls : List Call) (s : QueueState) (m : ℕ) (later : OrdinaryServed 
       let none = ordinary_row s p in
       served_turn (omega arith) (rw (ordinary_turn s p, e)) (later ahead rest job (ordinary_ordinary s p ∙ ap (drop 1) e) (omega arith) (omega arith))
   ordinary_next false p ahead rest job e l t =
-      let one : in_row (after_turn s).past ≡ suc (in_row s.past) = urgent_row s p ∙ rw (e, some_wait ahead rest job) in
+      let one : turns_in_row (after_turn s).past ≡ suc (turns_in_row s.past) = urgent_row s p ∙ rw (e, some_wait ahead rest job) in
       let few = not_three s p in
       served_turn (omega arith) (rw (urgent_turn s p, other_taken Ordinary Urgent refl s.urgent)) (later ahead rest job (urgent_ordinary s p ∙ e) (omega arith) (omega arith))
 
@@ -88,7 +88,7 @@ ordinary_served : (calls : List Call) (s : QueueState) (n : ℕ) → OrdinarySer
 unfolding turns_in
 ordinary_served [] s n ahead rest job e l t = absurd (omega arith)
 ordinary_served (offer other offered ∷ calls) s n ahead rest job e l t =
-    let same = ap in_row (offer_past other offered s) in
+    let same = ap turns_in_row (offer_past other offered s) in
     served_offer other offered (ordinary_served calls (after_offer other offered s) n ahead (rest ++ accepted_by Ordinary (offer other offered) s) job (behind_offer Ordinary other offered s ahead rest job e) (omega arith) t)
 ordinary_served (turn ∷ calls) s zero ahead rest job e l t = absurd (omega arith)
 ordinary_served (turn ∷ calls) s (suc m) ahead rest job e l t = ordinary_next calls s m (ordinary_served calls (after_turn s) m) (passes_urgent s) refl ahead rest job e l t
@@ -96,10 +96,10 @@ ordinary_served (turn ∷ calls) s (suc m) ahead rest job e l t = ordinary_next 
 -- ---- an urgent job
 
 abbrev UrgentServed : List Call → QueueState → ℕ → Type 0
-UrgentServed calls s n = (ahead rest : List Job) (job : Job) → s.urgent ≡ ahead ++ job ∷ rest → in_row s.past ≤ 3 → length ahead + 1 + (length ahead + in_row s.past) / 3 ≤ n → n ≤ turns_in calls → Served n Urgent ahead job calls s
+UrgentServed calls s n = (ahead rest : List Job) (job : Job) → s.urgent ≡ ahead ++ job ∷ rest → turns_in_row s.past ≤ 3 → length ahead + 1 + (length ahead + turns_in_row s.past) / 3 ≤ n → n ≤ turns_in calls → Served n Urgent ahead job calls s
 
 module _ (calls : List Call) (s : QueueState) (m : ℕ) (later : UrgentServed calls (after_turn s) m) where
-  row_more : (b : Bool) → cond b 0 (suc (in_row s.past)) ≤ suc (in_row s.past)
+  row_more : (b : Bool) → cond b 0 (suc (turns_in_row s.past)) ≤ suc (turns_in_row s.past)
   row_more true = omega arith
   row_more false = omega arith
 
@@ -112,14 +112,14 @@ module _ (calls : List Call) (s : QueueState) (m : ℕ) (later : UrgentServed ca
   urgent_next false p [] rest job e r l t = served_now (omega arith) (urgent_turn s p ∙ ap (oldest Urgent) e)
   urgent_next false p (a ∷ ahead) rest job e r l t =
       let few = not_three s p in
-      let more : in_row (after_turn s).past ≤ suc (in_row s.past) = rw (urgent_row s p) (row_more (is_empty s.ordinary)) in
+      let more : turns_in_row (after_turn s).past ≤ suc (turns_in_row s.past) = rw (urgent_row s p) (row_more (is_empty s.ordinary)) in
       served_turn (omega arith) (rw (urgent_turn s p, e)) (later ahead rest job (urgent_urgent s p ∙ ap (drop 1) e) (omega arith) (omega arith) (omega arith))
 
 urgent_served : (calls : List Call) (s : QueueState) (n : ℕ) → UrgentServed calls s n
 unfolding turns_in
 urgent_served [] s n ahead rest job e r l t = absurd (omega arith)
 urgent_served (offer other offered ∷ calls) s n ahead rest job e r l t =
-    let same = ap in_row (offer_past other offered s) in
+    let same = ap turns_in_row (offer_past other offered s) in
     served_offer other offered (urgent_served calls (after_offer other offered s) n ahead (rest ++ accepted_by Urgent (offer other offered) s) job (behind_offer Urgent other offered s ahead rest job e) (omega arith) (omega arith) t)
 urgent_served (turn ∷ calls) s zero ahead rest job e r l t = absurd (omega arith)
 urgent_served (turn ∷ calls) s (suc m) ahead rest job e r l t = urgent_next calls s m (urgent_served calls (after_turn s) m) (passes_urgent s) refl ahead rest job e r l t

@@ -9,7 +9,7 @@ use super::{Kind, Turn};
 pub const PLACES: usize = 16;
 
 // As many jobs as `count` says, from the place `first` on, the oldest first.
-#[derive(Drop)]
+#[derive(Clone, Copy)]
 pub struct Lane {
     queries: [u16; PLACES],
     structures: [u16; PLACES],

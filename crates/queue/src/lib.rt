@@ -1,4 +1,6 @@
 // A queue for the panel: jobs wait as urgent or ordinary, and each turn takes one.
+#![tactic(auto)]
+
 mod lane;
 
 ghost use Rattle.std.specs.Prelude.{◌≡◌, cond, [], ◌∷◌, ◌++◌, suc, ◌+◌, ◌≤◌, ◌<◌, eqb};
@@ -9,14 +11,14 @@ ghost use Rattle.queue.specs.Handing.{HandedOver, FromStart, ByHistory, Offers, 
 use answer::{Answer, Ground, Place, refused};
 use lane::{Lane, PLACES, empty};
 
-#[derive(Drop)]
+#[derive(Clone, Copy)]
 pub enum Kind {
     Urgent,
     Ordinary,
 }
 
 // What a turn answers: none, or the job that it took.
-#[derive(Drop)]
+#[derive(Clone, Copy)]
 pub enum Turn {
     None,
     Took {
@@ -27,7 +29,7 @@ pub enum Turn {
 }
 
 // The waiting jobs of both kinds, and how many of the last turns in a row took an urgent job while an ordinary one waited.
-#[derive(Drop)]
+#[derive(Clone, Copy)]
 pub struct Queue {
     urgent: Lane,
     ordinary: Lane,
@@ -35,14 +37,14 @@ pub struct Queue {
 }
 
 // What an offer answers, and the queue that it hands over.
-#[derive(Drop)]
+#[derive(Clone, Copy)]
 pub struct Offered {
     pub answer: Answer,
     pub queue: Queue,
 }
 
 // What a turn took, and the queue that it hands over.
-#[derive(Drop)]
+#[derive(Clone, Copy)]
 pub struct Turned {
     pub taken: Turn,
     pub queue: Queue,
