@@ -1,4 +1,6 @@
 // Standard input's bytes to the printed lines.
+#![tactic(auto)]
+
 mod input;
 
 ghost use Rattle.std.specs.Prelude.{◌≡◌, ◌≤◌, length, take};
@@ -18,7 +20,7 @@ use lines::{Lines, ROOM, refusal, result};
 use write::put_word;
 
 // What is answered of an input, and its printed lines: none beside a refusal.
-#[derive(Drop)]
+#[derive(Clone, Copy)]
 pub struct Reported {
     pub answer: Answer,
     pub lines: Lines,
@@ -94,8 +96,7 @@ fn put_lines(out: &mut [u8], lines: Lines) -> usize
 }
 
 // The same for C and Rust, put to an output that holds every report: how many bytes were written, and 0 if the lent memory is too short.
-#[unsafe(no_mangle)]
-pub extern "C" fn gurandyo_report(input: &[u8], scratch: &mut [u64], out: &mut [u8]) -> usize
+pub fn gurandyo_report(input: &[u8], scratch: &mut [u64], out: &mut [u8]) -> usize
     ensures { ReportPut input.now scratch.old scratch.new out.old out.new result }
 {
     if out.len() < ROOM {
