@@ -1,4 +1,6 @@
 // The two calls on open areas for a comparison in Rust: each opens a session on two texts and a deck and lists the areas of one of its seeds.
+#![tactic(auto)]
+
 ghost use Rattle.chain.specs.View.{Sound};
 
 use answer::Answer;
@@ -47,20 +49,12 @@ fn areas_of_deck(
 }
 
 // By rising a.
-#[unsafe(no_mangle)]
-pub extern "C" fn gurandyo_test_areas(
-    q: &[u8],
-    t: &[u8],
-    deck: &[u8],
-    number: usize,
-    out: &mut [u8],
-) -> i64 {
+pub fn gurandyo_test_areas(q: &[u8], t: &[u8], deck: &[u8], number: usize, out: &mut [u8]) -> i64 {
     areas_of_deck(q, t, deck, number, false, out)
 }
 
 // In the paper's order of work.
-#[unsafe(no_mangle)]
-pub extern "C" fn gurandyo_test_areas_in_paper_order(
+pub fn gurandyo_test_areas_in_paper_order(
     q: &[u8],
     t: &[u8],
     deck: &[u8],

@@ -1,5 +1,7 @@
 // The brute force: what texts, seeds, chains, open areas and stretches must be, straight by the definitions of document 01, and the areas' order of
 // work, by document 004's Algorithm 3, on small inputs.
+#![tactic(auto)]
+
 pub mod areas;
 pub mod lists;
 pub mod nodes;

@@ -11,7 +11,7 @@ const ADDED_ROOT: u8 = 2;
 
 // The nodes in postfix order, with the added root last. A node that no node has taken as a child has the parent 255, and a number that is no
 // node has the kind 255.
-#[derive(Drop)]
+#[derive(Clone, Copy)]
 pub struct Nodes {
     pub n: usize,
     pub parent: [u8; 16],
@@ -59,7 +59,7 @@ fn with_node(t: Nodes, from: usize) -> Nodes {
 }
 
 // How far a text is read: its nodes, which node each byte belongs to, and for each open bracket its byte and the nodes before it.
-#[derive(Drop)]
+#[derive(Clone, Copy)]
 pub struct Reader {
     pub nodes: Nodes,
     pub owner: [u8; 16],
@@ -194,7 +194,7 @@ pub fn leftmost(t: Nodes, i: usize) -> usize {
 }
 
 // A set of nodes.
-#[derive(Drop)]
+#[derive(Clone, Copy)]
 pub struct Set {
     pub has: [bool; 16],
 }

@@ -34,7 +34,7 @@ fn rightmost_root(t: Nodes, i: usize) -> usize {
 }
 
 // A node of Q and one of T.
-#[derive(Drop)]
+#[derive(Clone, Copy)]
 struct Pair {
     q: usize,
     t: usize,
@@ -70,7 +70,7 @@ fn behind_roots(trees: Trees, p: Pair) -> Pair {
 }
 
 // The areas found: four bytes each.
-#[derive(Drop)]
+#[derive(Clone, Copy)]
 struct Found {
     count: usize,
     boxes: [u8; 64],
@@ -105,7 +105,7 @@ fn with_area(f: Found, from: Pair, end: Pair) -> Found {
 }
 
 // How far the work is: the areas found, the stack, and the pair taken last from it.
-#[derive(Drop)]
+#[derive(Clone, Copy)]
 struct Work {
     found: Found,
     stack: List,

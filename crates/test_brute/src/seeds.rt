@@ -2,7 +2,7 @@
 use super::nodes::{Nodes, Set, ancestor, children_in, has, kind, leaf, none, parent, with};
 
 // The q of a list of at most four pairs, or its t.
-#[derive(Drop)]
+#[derive(Clone, Copy)]
 pub struct Column {
     pub count: usize,
     pub node: [u8; 4],
@@ -22,7 +22,7 @@ pub fn last(c: Column) -> usize {
 }
 
 // The list of pairs that two columns are.
-#[derive(Drop)]
+#[derive(Clone, Copy)]
 pub struct List {
     pub q: Column,
     pub t: Column,
@@ -42,7 +42,7 @@ pub fn no_pairs() -> List {
 }
 
 // The two trees.
-#[derive(Drop)]
+#[derive(Clone, Copy)]
 pub struct Trees {
     pub q: Nodes,
     pub t: Nodes,

@@ -3,7 +3,7 @@ use super::seeds::{List, Trees, chainable, no_pairs};
 use test_words::plain::{more, small};
 
 // At most eight seeds, counted from 0. A score is kept as points: 5 more than it is. Which two seeds are chainable is kept in both orders.
-#[derive(Drop)]
+#[derive(Clone, Copy)]
 pub struct Table {
     pub count: usize,
     pub seeds: [List; 8],
@@ -163,7 +163,7 @@ fn moved(sum: usize, points: usize) -> usize {
 }
 
 // A chain, its worth, and how many chains are worth as much.
-#[derive(Drop)]
+#[derive(Clone, Copy)]
 pub struct Choice {
     pub set: usize,
     pub worth: usize,

@@ -2,7 +2,7 @@
 use test_words::plain::{byte_at, find, less, more};
 
 // A ground and its byte.
-#[derive(Drop)]
+#[derive(Clone, Copy)]
 pub struct Verdict {
     pub ground: usize,
     pub at: usize,

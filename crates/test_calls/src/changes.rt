@@ -12,7 +12,7 @@ use test_words::spelled::put_hex;
 use test_words::{Text, blank, with_spaced};
 
 // What a call answered in words, and the session that it handed over.
-#[derive(Drop)]
+#[derive(Clone, Copy)]
 pub struct Done {
     pub session: Session,
     pub text: Text,

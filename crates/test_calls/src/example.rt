@@ -14,7 +14,7 @@ use write::Written;
 use best::SCRATCH;
 
 // What is answered on the way.
-#[derive(Drop)]
+#[derive(Clone, Copy)]
 pub struct Answers {
     pub refusal: Answer,
     pub row: Shown,

@@ -1,4 +1,6 @@
 // The calls of the library as a script names them, with what they answer in words.
+#![tactic(auto)]
+
 pub mod changes;
 pub mod example;
 pub mod observe;

@@ -4,6 +4,7 @@ ghost use Rattle.chain.specs.View.{Sound};
 use super::views::list;
 use best::SCRATCH;
 use chain::Session;
+use itoa::Buffer;
 use test_words::plain::{part, put, put_all};
 
 fn flag(there: bool) -> u8 {
@@ -19,9 +20,8 @@ fn put_flags(out: &mut [u8], at: usize, chain: [bool; 64]) -> usize {
 }
 
 fn put_total(out: &mut [u8], at: usize, total: u64) -> usize {
-    let mut digits = [0u8; 20];
-    let k = io::decimal(total, &mut digits);
-    put_all(out, at, &digits[..k])
+    let mut digits = Buffer::new();
+    put_all(out, at, digits.format(total).as_bytes())
 }
 
 fn put_best(session: Session, out: &mut [u8]) -> usize

@@ -8,7 +8,7 @@ use test_words::{Text, blank, with_bytes};
 use queue::{Kind, Turn};
 
 // What is answered on the way.
-#[derive(Drop)]
+#[derive(Clone, Copy)]
 pub struct Served {
     pub offer: Answer,
     pub third: Turn,

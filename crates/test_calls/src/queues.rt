@@ -8,7 +8,7 @@ use test_words::plain::{from_u16, to_u16};
 use test_words::{Text, begins, blank, with_bytes, with_spaced};
 
 // What a call answered in words, and the queue that it handed over.
-#[derive(Drop)]
+#[derive(Clone, Copy)]
 pub struct Queued {
     pub queue: Queue,
     pub text: Text,

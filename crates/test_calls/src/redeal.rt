@@ -6,7 +6,7 @@ use chain::Session;
 use test_words::plain::part;
 
 // What opening the deck answers, its length, its session, and whether that is written with the same bytes.
-#[derive(Drop)]
+#[derive(Clone, Copy)]
 pub struct Reopened {
     pub answer: Answer,
     pub length: usize,

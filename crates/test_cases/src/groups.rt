@@ -17,87 +17,87 @@ fn wrong(c: Count) -> Text {
     with_bytes(with_number(blank(), c.wrong), b" wrong")
 }
 
-fn random_texts(cases: usize, seed: usize) -> Text {
-    let c = texts(cases, seed as u64);
-    print_count(b"random texts: ", c);
+fn random_texts(rt: &impl Print, cases: usize, seed: usize) -> Text {
+    let c = texts(rt, cases, seed as u64);
+    print_count(rt, b"random texts: ", c);
     wrong(c)
 }
 
-fn random_stretches(cases: usize, seed: usize) -> Text {
-    let c = stretches(cases, seed as u64);
-    print_count(b"random stretches: ", c);
+fn random_stretches(rt: &impl Print, cases: usize, seed: usize) -> Text {
+    let c = stretches(rt, cases, seed as u64);
+    print_count(rt, b"random stretches: ", c);
     wrong(c)
 }
 
-fn random_sessions(cases: usize, seed: usize) -> Text {
-    let c = sessions(cases, seed as u64);
+fn random_sessions(rt: &impl Print, cases: usize, seed: usize) -> Text {
+    let c = sessions(rt, cases, seed as u64);
     let count = c.count;
     let seen = c.seen;
-    print_count(b"random sessions: ", count);
-    print_seen(seen);
+    print_count(rt, b"random sessions: ", count);
+    print_seen(rt, seen);
     wrong(count)
 }
 
-fn random_nudges(cases: usize, seed: usize) -> Text {
-    let all = nudges(cases, seed as u64);
+fn random_nudges(rt: &impl Print, cases: usize, seed: usize) -> Text {
+    let all = nudges(rt, cases, seed as u64);
     let count = all.count;
-    print_count(b"random nudges: ", count);
-    print_moves(all);
+    print_count(rt, b"random nudges: ", count);
+    print_moves(rt, all);
     wrong(count)
 }
 
-fn random_scores(cases: usize, seed: usize) -> Text {
-    let c = score_texts(cases, seed as u64);
-    print_count(b"random scores: ", c);
+fn random_scores(rt: &impl Print, cases: usize, seed: usize) -> Text {
+    let c = score_texts(rt, cases, seed as u64);
+    print_count(rt, b"random scores: ", c);
     wrong(c)
 }
 
-fn random_numbers(cases: usize, seed: usize) -> Text {
-    let c = score_numbers(cases, seed as u64);
-    print_count(b"random numbers: ", c);
+fn random_numbers(rt: &impl Print, cases: usize, seed: usize) -> Text {
+    let c = score_numbers(rt, cases, seed as u64);
+    print_count(rt, b"random numbers: ", c);
     wrong(c)
 }
 
-fn random_queue(cases: usize, seed: usize) -> Text {
-    let served = lists(cases, seed as u64);
+fn random_queue(rt: &impl Print, cases: usize, seed: usize) -> Text {
+    let served = lists(rt, cases, seed as u64);
     let count = served.count;
-    print_count(b"random queue: ", count);
-    print_served(served);
+    print_count(rt, b"random queue: ", count);
+    print_served(rt, served);
     wrong(count)
 }
 
 // random GROUP CASES SEED
-pub fn random(s: &[u8], at: usize) -> Text {
+pub fn random(rt: &impl Print, s: &[u8], at: usize) -> Text {
     let cases = next(s, at);
     let seed = next(s, cases);
     if check::same(word(s, at), b"texts") {
-        return random_texts(number(s, cases), number(s, seed));
+        return random_texts(rt, number(s, cases), number(s, seed));
     }
     if check::same(word(s, at), b"stretches") {
-        return random_stretches(number(s, cases), number(s, seed));
+        return random_stretches(rt, number(s, cases), number(s, seed));
     }
     if check::same(word(s, at), b"nudges") {
-        return random_nudges(number(s, cases), number(s, seed));
+        return random_nudges(rt, number(s, cases), number(s, seed));
     }
     if check::same(word(s, at), b"scores") {
-        return random_scores(number(s, cases), number(s, seed));
+        return random_scores(rt, number(s, cases), number(s, seed));
     }
     if check::same(word(s, at), b"numbers") {
-        return random_numbers(number(s, cases), number(s, seed));
+        return random_numbers(rt, number(s, cases), number(s, seed));
     }
     if check::same(word(s, at), b"queue") {
-        return random_queue(number(s, cases), number(s, seed));
+        return random_queue(rt, number(s, cases), number(s, seed));
     }
-    random_sessions(number(s, cases), number(s, seed))
+    random_sessions(rt, number(s, cases), number(s, seed))
 }
 
 // every LENGTH: all texts of one byte, or of two. every score: all scores, written and read back.
-pub fn every(s: &[u8], at: usize) -> Text {
+pub fn every(rt: &impl Print, s: &[u8], at: usize) -> Text {
     if check::same(word(s, at), b"score") {
-        return with_counts(blank(), all_scores());
+        return with_counts(blank(), all_scores(rt));
     }
     if number(s, at) == 1 {
-        return with_counts(blank(), all_bytes());
+        return with_counts(blank(), all_bytes(rt));
     }
-    with_counts(blank(), all_two_bytes())
+    with_counts(blank(), all_two_bytes(rt))
 }

@@ -9,11 +9,11 @@ use test_calls::observe::alike;
 use test_calls::queues;
 use test_words::line::{line_end, next, number, sign, word};
 use test_words::plain::{byte_at, more, part};
-use test_words::{Text, begins, blank, is, print, with_bytes, with_number};
+use test_words::{Text, begins, blank, is, print, print_bytes, with_bytes, with_number};
 
 // Where a script stands: the session and the queue, where in the script the session's two texts and the name of the case are, and what is
 // counted; `bad` is whether a call of the case was wrong.
-#[derive(Drop)]
+#[derive(Clone, Copy)]
 struct State {
     session: Session,
     queue: Queue,
@@ -55,22 +55,22 @@ fn kept(session: Session, later: Session, s: &[u8], at: usize, text: Text) -> bo
     alike(session, later, &mut first, &mut second)
 }
 
-fn print_wrong(s: &[u8], name: usize, at: usize, text: Text) {
-    io::write_all(1, b"case ");
-    io::write_all(1, part(s, name, line_end(s, name)));
-    io::write_all(1, b": WRONG: ");
-    io::write_all(1, part(s, at, sign(s, at)));
-    io::write_all(1, b"gave ");
-    print(text);
-    io::write_all(1, b", and not ");
-    io::write_all(1, expected(s, at));
-    io::write_all(1, b"\n");
+fn print_wrong(rt: &impl Print, s: &[u8], name: usize, at: usize, text: Text) {
+    print_bytes(rt, b"case ");
+    print_bytes(rt, part(s, name, line_end(s, name)));
+    print_bytes(rt, b": WRONG: ");
+    print_bytes(rt, part(s, at, sign(s, at)));
+    print_bytes(rt, b"gave ");
+    print(rt, text);
+    print_bytes(rt, b", and not ");
+    print_bytes(rt, expected(s, at));
+    print_bytes(rt, b"\n");
 }
 
-fn print_case(s: &[u8], name: usize) {
-    io::write_all(1, b"case ");
-    io::write_all(1, part(s, name, line_end(s, name)));
-    io::write_all(1, b": ok\n");
+fn print_case(rt: &impl Print, s: &[u8], name: usize) {
+    print_bytes(rt, b"case ");
+    print_bytes(rt, part(s, name, line_end(s, name)));
+    print_bytes(rt, b": ok\n");
 }
 
 // The text that a line expects.
@@ -79,23 +79,23 @@ fn expected(s: &[u8], at: usize) -> &[u8] {
 }
 
 // Holds what a call answered to what its line says, and prints it if it is something else.
-fn is_right(s: &[u8], name: usize, at: usize, text: Text) -> bool {
+fn is_right(rt: &impl Print, s: &[u8], name: usize, at: usize, text: Text) -> bool {
     let right = is(text, expected(s, at));
     if !right {
-        print_wrong(s, name, at, text);
+        print_wrong(rt, s, name, at, text);
     }
     right
 }
 
 // Makes the call of a line on the session.
-fn judged(state: State, s: &[u8], at: usize) -> State
+fn judged(rt: &impl Print, state: State, s: &[u8], at: usize) -> State
     requires { Sound state.session × FromStart state.queue }
     ensures { Sound result.session × FromStart result.queue }
 {
     let session = state.session;
     let from = begin(s, at);
     let turns = times(s, at);
-    let done = called(session, s, from, state.texts, turns);
+    let done = called(rt, session, s, from, state.texts, turns);
     let later = done.session;
     let mut text = done.text;
     if turns == 1 {
@@ -103,14 +103,14 @@ fn judged(state: State, s: &[u8], at: usize) -> State
             text = with_bytes(text, b", session changed");
         }
     }
-    let mut next = counted(state, is_right(s, state.name, at, text));
+    let mut next = counted(state, is_right(rt, s, state.name, at, text));
     next.session = later;
     next.texts = placed(s, from, state.texts);
     next
 }
 
 // Makes the call of a line on the queue.
-fn queue_judged(state: State, s: &[u8], at: usize) -> State
+fn queue_judged(rt: &impl Print, state: State, s: &[u8], at: usize) -> State
     requires { Sound state.session × FromStart state.queue }
     ensures { Sound result.session × FromStart result.queue }
 {
@@ -124,7 +124,7 @@ fn queue_judged(state: State, s: &[u8], at: usize) -> State
             text = with_bytes(text, b", queue changed");
         }
     }
-    let mut next = counted(state, is_right(s, state.name, at, text));
+    let mut next = counted(state, is_right(rt, s, state.name, at, text));
     next.queue = later;
     next
 }
@@ -152,14 +152,14 @@ fn counted(state: State, right: bool) -> State
 }
 
 // Ends the case before, if there is one.
-fn ended(state: State, s: &[u8]) -> State
+fn ended(rt: &impl Print, state: State, s: &[u8]) -> State
     requires { Sound state.session × FromStart state.queue }
     ensures { Sound result.session × FromStart result.queue }
 {
     let mut next = state;
     if 0 < state.cases {
         if !state.bad {
-            print_case(s, state.name);
+            print_case(rt, s, state.name);
         }
     }
     next.cases = more(state.cases);
@@ -167,17 +167,17 @@ fn ended(state: State, s: &[u8]) -> State
     next
 }
 
-fn named(state: State, s: &[u8], at: usize) -> State
+fn named(rt: &impl Print, state: State, s: &[u8], at: usize) -> State
     requires { Sound state.session × FromStart state.queue }
     ensures { Sound result.session × FromStart result.queue }
 {
     let name = next(s, at);
-    let mut later = ended(state, s);
+    let mut later = ended(rt, state, s);
     later.name = name;
     later
 }
 
-fn line(state: State, s: &[u8], at: usize) -> State
+fn line(rt: &impl Print, state: State, s: &[u8], at: usize) -> State
     requires { Sound state.session × FromStart state.queue }
     ensures { Sound result.session × FromStart result.queue }
 {
@@ -188,15 +188,15 @@ fn line(state: State, s: &[u8], at: usize) -> State
         return state;
     }
     if check::same(word(s, at), b"case") {
-        return named(state, s, at);
+        return named(rt, state, s, at);
     }
     if queues::is_call(s, begin(s, at)) {
-        return queue_judged(state, s, at);
+        return queue_judged(rt, state, s, at);
     }
-    judged(state, s, at)
+    judged(rt, state, s, at)
 }
 
-fn lines(state: State, s: &[u8]) -> State
+fn lines(rt: &impl Print, state: State, s: &[u8]) -> State
     requires { Sound state.session × FromStart state.queue }
     ensures { Sound result.session × FromStart result.queue }
 {
@@ -210,17 +210,18 @@ fn lines(state: State, s: &[u8]) -> State
         if s.len() <= end {
             return now;
         }
-        now = line(now, s, at);
+        now = line(rt, now, s, at);
         at = end + 1;
     }
     now
 }
 
 // Runs a script and prints what came of it.
-pub fn run(s: &[u8]) {
+pub fn run(rt: &impl Print, s: &[u8]) {
     let opened = chain::open(b".", b".");
     let session = opened.session;
     let state = lines(
+        rt,
         State {
             session,
             queue: queue::start(),
@@ -233,12 +234,12 @@ pub fn run(s: &[u8]) {
         },
         s,
     );
-    ended(state, s);
-    print_counts(state);
+    ended(rt, state, s);
+    print_counts(rt, state);
 }
 
-fn print_counts(state: State) {
+fn print_counts(rt: &impl Print, state: State) {
     let cases = with_bytes(with_number(blank(), state.cases), b" cases, ");
     let calls = with_bytes(with_number(cases, state.calls), b" calls, ");
-    print(with_bytes(with_number(calls, state.wrong), b" wrong\n"));
+    print(rt, with_bytes(with_number(calls, state.wrong), b" wrong\n"));
 }

@@ -25,7 +25,7 @@ fn on_score(s: &[u8], at: usize) -> Text {
 }
 
 // A call that takes no session.
-fn without_session(s: &[u8], at: usize) -> Text {
+fn without_session(rt: &impl Print, s: &[u8], at: usize) -> Text {
     let args = next(s, at);
     if check::same(word(s, at), b"stretch") {
         return views::stretch(s, args);
@@ -40,10 +40,10 @@ fn without_session(s: &[u8], at: usize) -> Text {
         return exported(s, args);
     }
     if check::same(word(s, at), b"random") {
-        return random(s, args);
+        return random(rt, s, args);
     }
     if check::same(word(s, at), b"every") {
-        return every(s, args);
+        return every(rt, s, args);
     }
     if check::same(word(s, at), b"example") {
         return example::run();
@@ -70,7 +70,7 @@ fn listing(session: Session, s: &[u8], at: usize) -> Text
 }
 
 // A call that changes no session. The session's two texts stand at a place of their own.
-fn looking(session: Session, s: &[u8], at: usize, texts: usize) -> Text
+fn looking(rt: &impl Print, session: Session, s: &[u8], at: usize, texts: usize) -> Text
     requires { Sound session }
 {
     let args = next(s, at);
@@ -89,7 +89,7 @@ fn looking(session: Session, s: &[u8], at: usize, texts: usize) -> Text
     if check::same(word(s, at), b"redeal") {
         return views::redeal(session, s, texts);
     }
-    without_session(s, at)
+    without_session(rt, s, at)
 }
 
 // Whether the call hands over a session of its own.
@@ -128,7 +128,7 @@ fn lending(session: Session, s: &[u8], at: usize) -> Done
 }
 
 // A call on a session by value, whether it changes the session or not.
-fn by_value(session: Session, s: &[u8], at: usize, texts: usize) -> Done
+fn by_value(rt: &impl Print, session: Session, s: &[u8], at: usize, texts: usize) -> Done
     requires { Sound session }
     ensures { Sound result.session }
 {
@@ -147,11 +147,11 @@ fn by_value(session: Session, s: &[u8], at: usize, texts: usize) -> Done
     }
     Done {
         session,
-        text: looking(session, s, at, texts),
+        text: looking(rt, session, s, at, texts),
     }
 }
 
-fn call(session: Session, s: &[u8], at: usize, texts: usize) -> Done
+fn call(rt: &impl Print, session: Session, s: &[u8], at: usize, texts: usize) -> Done
     requires { Sound session }
     ensures { Sound result.session }
 {
@@ -161,18 +161,25 @@ fn call(session: Session, s: &[u8], at: usize, texts: usize) -> Done
     if lends(s, at) {
         return lending(session, s, at);
     }
-    by_value(session, s, at, texts)
+    by_value(rt, session, s, at, texts)
 }
 
 // The call so many times, and at least once: what the last one answers.
-pub fn called(session: Session, s: &[u8], at: usize, texts: usize, times: usize) -> Done
+pub fn called(
+    rt: &impl Print,
+    session: Session,
+    s: &[u8],
+    at: usize,
+    texts: usize,
+    times: usize,
+) -> Done
     requires { Sound session }
     ensures { Sound result.session }
 {
-    let mut done = call(session, s, at, texts);
+    let mut done = call(rt, session, s, at, texts);
     for _ in 1..times {
         let later = done.session;
-        done = call(later, s, at, texts);
+        done = call(rt, later, s, at, texts);
     }
     done
 }

@@ -1,4 +1,6 @@
-// For the tests: the two calls on lent memory by value. A function that makes such a loan is proved by hand, and a caller of these is not.
+// For the tests: the two calls on lent memory by value, each of which lends to them.
+#![tactic(auto)]
+
 ghost use Rattle.std.specs.Prelude.{◌≡◌, min};
 ghost use Rattle.chain.specs.Acts.{add, rescore, number_given};
 ghost use Rattle.chain.specs.View.{view, Sound, Does};
@@ -9,7 +11,7 @@ use lent::{add, rescore};
 use seed::Pair;
 
 // The first `count` of these pairs, and all if there are not so many.
-#[derive(Drop)]
+#[derive(Clone, Copy)]
 pub struct PairList {
     pub count: usize,
     pub pairs: [Pair; 1025],

@@ -1,5 +1,7 @@
 // Random nudges on two small trees: eight lists are added, then scores raised and lowered and seeds withdrawn and brought back, and the best
 // total before and after each is held to how far it can move (document 02, m).
+#![tactic(auto)]
+
 pub mod moves;
 mod nudge;
 
@@ -23,7 +25,7 @@ use test_words::answers::ground_of;
 use test_words::plain::{more, part, plus};
 
 // A session, how many seeds it has, their lifted scores by number, and what is counted.
-#[derive(Drop)]
+#[derive(Clone, Copy)]
 struct Play {
     session: Session,
     seeds: usize,
@@ -131,7 +133,7 @@ fn drawn(state: &mut u64) -> Nudge {
 }
 
 // What a nudge answered and left, and the total after it.
-#[derive(Drop)]
+#[derive(Clone, Copy)]
 struct Made {
     session: Session,
     ground: usize,
@@ -200,7 +202,7 @@ fn with_made(p: Play, number: usize, lifted: usize, made: Made) -> Play
 }
 
 // One random nudge of a seed, or of a number that is not given out.
-fn nudged(p: Play, state: &mut u64) -> Play
+fn nudged(rt: &impl Print, p: Play, state: &mut u64) -> Play
     requires { Sound p.session }
     ensures { Sound result.session }
 {
@@ -220,22 +222,29 @@ fn nudged(p: Play, state: &mut u64) -> Play
         made.ground,
     );
     let mut next = with_made(p, number, lifted_after(lifted, nudge), made);
-    next.moves = with_move(moves, m, way_of(nudge), is_below_zero(lifted), made.ground);
+    next.moves = with_move(
+        rt,
+        moves,
+        m,
+        way_of(nudge),
+        is_below_zero(lifted),
+        made.ground,
+    );
     next
 }
 
-fn all_nudged(p: Play, state: &mut u64) -> Play
+fn all_nudged(rt: &impl Print, p: Play, state: &mut u64) -> Play
     requires { Sound p.session }
     ensures { Sound result.session }
 {
     let mut next = p;
     for _ in 0usize..16 {
-        next = nudged(next, state);
+        next = nudged(rt, next, state);
     }
     next
 }
 
-fn on_texts(q: &[u8], t: &[u8], state: &mut u64, moves: Moves) -> Moves {
+fn on_texts(rt: &impl Print, q: &[u8], t: &[u8], state: &mut u64, moves: Moves) -> Moves {
     let trees = Trees {
         q: nodes_of(q),
         t: nodes_of(t),
@@ -248,36 +257,44 @@ fn on_texts(q: &[u8], t: &[u8], state: &mut u64, moves: Moves) -> Moves {
         lifted: [0; 10],
         moves,
     };
-    let p = all_nudged(adds(start, trees, state), state);
+    let p = all_nudged(rt, adds(start, trees, state), state);
     p.moves
 }
 
-fn on_bytes(q: [u8; 12], n: usize, t: [u8; 12], m: usize, state: &mut u64, moves: Moves) -> Moves {
-    on_texts(part(&q, 0, n), part(&t, 0, m), state, moves)
+fn on_bytes(
+    rt: &impl Print,
+    q: [u8; 12],
+    n: usize,
+    t: [u8; 12],
+    m: usize,
+    state: &mut u64,
+    moves: Moves,
+) -> Moves {
+    on_texts(rt, part(&q, 0, n), part(&t, 0, m), state, moves)
 }
 
 // One random session: its two texts are printed if a total in it is wrong.
-fn one(q: Sample, t: Sample, state: &mut u64, moves: Moves) -> Moves {
+fn one(rt: &impl Print, q: Sample, t: Sample, state: &mut u64, moves: Moves) -> Moves {
     let before = moves.count;
     let q_bytes = q.bytes;
     let t_bytes = t.bytes;
-    let next = on_bytes(q_bytes, q.len, t_bytes, t.len, state, moves);
+    let next = on_bytes(rt, q_bytes, q.len, t_bytes, t.len, state, moves);
     let after = next.count;
-    print_if_wrong(before, after, q, t);
+    print_if_wrong(rt, before, after, q, t);
     next
 }
 
-fn session(state: &mut u64, moves: Moves) -> Moves {
+fn session(rt: &impl Print, state: &mut u64, moves: Moves) -> Moves {
     let q = structure(state);
     let t = other(q, state);
-    one(q, t, state, moves)
+    one(rt, q, t, state, moves)
 }
 
-pub fn nudges(cases: usize, seed: u64) -> Moves {
+pub fn nudges(rt: &impl Print, cases: usize, seed: u64) -> Moves {
     let mut state = seed;
     let mut all = no_moves();
     for _ in 0..cases {
-        all = session(&mut state, all);
+        all = session(rt, &mut state, all);
     }
     all
 }

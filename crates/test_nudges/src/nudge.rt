@@ -9,7 +9,7 @@ use test_words::plain::plus;
 pub const LIFT: usize = 3000000;
 
 // A score raised or lowered by so much, or a seed withdrawn or brought back.
-#[derive(Drop)]
+#[derive(Clone, Copy)]
 pub enum Nudge {
     Raise(usize),
     Lower(usize),

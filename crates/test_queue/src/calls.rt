@@ -4,7 +4,7 @@ use test_random::draw;
 use test_words::plain::{less, plus, to_u16};
 
 // An offer of a job of a kind, or, of no kind, a turn.
-#[derive(Drop)]
+#[derive(Clone, Copy)]
 pub struct Call {
     pub kind: u8,
     pub query: u16,
@@ -20,7 +20,7 @@ fn turn() -> Call {
 }
 
 // How calls are mixed: of 16 so many are turns, and of 16 offers so many are urgent. It holds for so many calls more.
-#[derive(Drop)]
+#[derive(Clone, Copy)]
 pub struct Mixture {
     turns: usize,
     urgent: usize,

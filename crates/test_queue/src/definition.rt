@@ -16,7 +16,7 @@ pub const URGENT: u8 = 1;
 pub const ORDINARY: u8 = 2;
 
 // A waiting job, with how many of its kind stood before it and how many turns had been when it was offered.
-#[derive(Drop)]
+#[derive(Clone, Copy)]
 pub struct Job {
     pub query: u16,
     pub structure: u16,
@@ -25,21 +25,21 @@ pub struct Job {
 }
 
 // The jobs of one kind, as far as count.
-#[derive(Drop)]
+#[derive(Clone, Copy)]
 struct Jobs {
     count: usize,
     job: [Job; PLACES],
 }
 
 // A turn that was: the kind of the job that it took, and whether an ordinary job waited.
-#[derive(Drop)]
+#[derive(Clone, Copy)]
 struct PastTurn {
     took: u8,
     ordinary_waited: bool,
 }
 
 // What waits, and the turns that were, as far as turns.
-#[derive(Drop)]
+#[derive(Clone, Copy)]
 pub struct Waiting {
     urgent: Jobs,
     ordinary: Jobs,
@@ -48,7 +48,7 @@ pub struct Waiting {
 }
 
 // What a turn takes: a job of a kind, or none.
-#[derive(Drop)]
+#[derive(Clone, Copy)]
 pub struct Taken {
     pub kind: u8,
     pub job: Job,

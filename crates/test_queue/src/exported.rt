@@ -26,7 +26,7 @@ fn low(n: u16) -> u8 {
 }
 
 // What stands in an answer: one byte, and two numbers.
-#[derive(Drop)]
+#[derive(Clone, Copy)]
 struct Record {
     first: u8,
     query: u16,
@@ -35,7 +35,7 @@ struct Record {
 
 // Puts an answer from a place on.
 fn put(out: &mut [u8], at: usize, record: Record)
-    requires* { do ⌜ at + 5 ≤ (← ⟦out.len()⟧) ⌝ }
+    requires { at + 5 ≤ length out.old }
 {
     out[at] = record.first;
     out[at + 1] = high(record.query);
@@ -79,7 +79,8 @@ fn of_turn(turn: Turn) -> Record {
 }
 
 fn offered(queue: Queue, kind: Kind, query: u16, structure: u16, out: &mut [u8], at: usize) -> Queue
-    requires* { ⌜ FromStart queue ⌝ ∗ do ⌜ at + 5 ≤ (← ⟦out.len()⟧) ⌝ }
+    requires started { FromStart queue }
+    requires room { at + 5 ≤ length out.old }
     ensures { FromStart result }
 {
     let r = queue.offered(kind, query, structure);
@@ -89,7 +90,8 @@ fn offered(queue: Queue, kind: Kind, query: u16, structure: u16, out: &mut [u8],
 }
 
 fn turned(queue: Queue, out: &mut [u8], at: usize) -> Queue
-    requires* { ⌜ FromStart queue ⌝ ∗ do ⌜ at + 5 ≤ (← ⟦out.len()⟧) ⌝ }
+    requires started { FromStart queue }
+    requires room { at + 5 ≤ length out.old }
     ensures { FromStart result }
 {
     let r = queue.turned();
@@ -100,7 +102,8 @@ fn turned(queue: Queue, out: &mut [u8], at: usize) -> Queue
 
 // Makes one call: 1 is an urgent offer, 2 an ordinary one, any other a turn.
 fn called(queue: Queue, way: u8, query: u16, structure: u16, out: &mut [u8], at: usize) -> Queue
-    requires* { ⌜ FromStart queue ⌝ ∗ do ⌜ at + 5 ≤ (← ⟦out.len()⟧) ⌝ }
+    requires started { FromStart queue }
+    requires room { at + 5 ≤ length out.old }
     ensures { FromStart result }
 {
     match way {
@@ -118,8 +121,7 @@ fn fewer(a: usize, b: usize) -> usize
 
 // From a started queue, each call whose five bytes are whole, as long as the output has room for its answer: which call, then the query's and the
 // structure's number, high byte first. An answer is the ground's number and zeros, or what the turn took. It returns how many calls were made.
-#[unsafe(no_mangle)]
-pub extern "C" fn gurandyo_test_queue(calls: &[u8], out: &mut [u8]) -> usize {
+pub fn gurandyo_test_queue(calls: &[u8], out: &mut [u8]) -> usize {
     let whole = fewer(calls.len() / RECORD, out.len() / RECORD);
     let mut queue = queue::start();
     for k in 0..whole {

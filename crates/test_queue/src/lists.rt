@@ -15,7 +15,7 @@ use test_words::answers::{ground_of, kind_of};
 use test_words::{blank, print, with_bytes};
 
 // The library's queue, what waits in it by the definition, and what is counted.
-#[derive(Drop)]
+#[derive(Clone, Copy)]
 struct Play {
     queue: Queue,
     waiting: Waiting,
@@ -54,7 +54,7 @@ fn turn_right(turn: Turn, taken: Taken) -> bool {
     }
 }
 
-fn offer(p: Play, call: Call) -> Play
+fn offer(rt: &impl Print, p: Play, call: Call) -> Play
     requires { FromStart p.queue }
     ensures { FromStart result.queue }
 {
@@ -68,11 +68,11 @@ fn offer(p: Play, call: Call) -> Play
     Play {
         queue: later,
         waiting: offered(waiting, call.kind, call.query, call.structure),
-        served: with_offer(served, ground, offer_right(answer, ground)),
+        served: with_offer(rt, served, ground, offer_right(answer, ground)),
     }
 }
 
-fn take(p: Play) -> Play
+fn take(rt: &impl Print, p: Play) -> Play
     requires { FromStart p.queue }
     ensures { FromStart result.queue }
 {
@@ -87,72 +87,82 @@ fn take(p: Play) -> Play
     Play {
         queue: later,
         waiting: turned(waiting),
-        served: with_turn(served, taken, waiting.turns, urgent_waits(waiting), right),
+        served: with_turn(
+            rt,
+            served,
+            taken,
+            waiting.turns,
+            urgent_waits(waiting),
+            right,
+        ),
     }
 }
 
-fn called(p: Play, call: Call) -> Play
+fn called(rt: &impl Print, p: Play, call: Call) -> Play
     requires { FromStart p.queue }
     ensures { FromStart result.queue }
 {
     if call.kind == NONE {
-        return take(p);
+        return take(rt, p);
     }
-    offer(p, call)
+    offer(rt, p, call)
 }
 
 // So many random calls.
-fn all_called(p: Play, calls: usize, state: &mut u64) -> Play
+fn all_called(rt: &impl Print, p: Play, calls: usize, state: &mut u64) -> Play
     requires { FromStart p.queue }
     ensures { FromStart result.queue }
 {
     let mut now = p;
     let mut m = any_mixture(state, calls);
     for _ in 0..calls {
-        now = called(now, drawn(m, state));
+        now = called(rt, now, drawn(m, state));
         m = next(m, state);
     }
     now
 }
 
 // Turns until nobody waits, and one more: at the end of a list every job that still waits is looked at.
-fn emptied(p: Play) -> Play
+fn emptied(rt: &impl Print, p: Play) -> Play
     requires { FromStart p.queue }
     ensures { FromStart result.queue }
 {
     let mut now = p;
     for _ in 0..PLACES + 1 {
-        now = take(now);
+        now = take(rt, now);
     }
     now
 }
 
 // One list of 0 to 200 calls from the start.
-fn list(served: Served, state: &mut u64) -> Served {
+fn list(rt: &impl Print, served: Served, state: &mut u64) -> Served {
     let calls = draw(state, 201);
     let p = Play {
         queue: queue::start(),
         waiting: nobody(),
         served,
     };
-    let last = emptied(all_called(p, calls, state));
+    let last = emptied(rt, all_called(rt, p, calls, state));
     last.served
 }
 
-fn print_if_wrong(before: Count, after: Count, number: usize) {
+fn print_if_wrong(rt: &impl Print, before: Count, after: Count, number: usize) {
     if before.wrong < after.wrong {
-        print(with_count(with_bytes(blank(), b"  in list "), number, b"\n"));
+        print(
+            rt,
+            with_count(with_bytes(blank(), b"  in list "), number, b"\n"),
+        );
     }
 }
 
-pub fn lists(cases: usize, seed: u64) -> Served {
+pub fn lists(rt: &impl Print, cases: usize, seed: u64) -> Served {
     let mut state = seed;
     let mut served = nobody_served();
     for number in 0..cases {
         let before = served.count;
-        served = list(served, &mut state);
+        served = list(rt, served, &mut state);
         let after = served.count;
-        print_if_wrong(before, after, number);
+        print_if_wrong(rt, before, after, number);
     }
     served
 }

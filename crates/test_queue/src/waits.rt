@@ -5,7 +5,7 @@ use test_words::plain::{fourfold, more, plus};
 use test_words::{blank, print, with_bytes};
 
 // The jobs of one kind: those taken, those of them that waited as many turns as may be, and how many of these had others of their kind before them.
-#[derive(Drop)]
+#[derive(Clone, Copy)]
 struct Waits {
     taken: usize,
     longest: usize,
@@ -13,7 +13,7 @@ struct Waits {
 }
 
 // The offers, and by what they took the turns: urgent jobs, ordinary jobs, how many of these while an urgent job waited, and none.
-#[derive(Drop)]
+#[derive(Clone, Copy)]
 pub struct Served {
     pub count: Count,
     urgent: Waits,
@@ -78,10 +78,10 @@ fn is_in_time(kind: u8, job: Job, turns: usize) -> bool {
 }
 
 // One offer more, refused on this ground or, if it is 0, accepted.
-pub fn with_offer(s: Served, ground: usize, right: bool) -> Served {
+pub fn with_offer(rt: &impl Print, s: Served, ground: usize, right: bool) -> Served {
     let count = s.count;
     let mut next = s;
-    next.count = counted(count, ground, right);
+    next.count = counted(rt, count, ground, right);
     next
 }
 
@@ -107,6 +107,7 @@ fn with_taken(s: Served, kind: u8, job: Job, turns: usize, urgent_waited: bool) 
 
 // The same after so many turns, and whether the library took just that.
 pub fn with_turn(
+    rt: &impl Print,
     s: Served,
     taken: Taken,
     turns: usize,
@@ -117,27 +118,30 @@ pub fn with_turn(
     let job = taken.job;
     let in_time = is_in_time(taken.kind, job, turns);
     let mut next = with_taken(s, taken.kind, job, turns, urgent_waited);
-    next.count = marked(marked(count, right, b"a turn"), in_time, b"a wait");
+    next.count = marked(rt, marked(rt, count, right, b"a turn"), in_time, b"a wait");
     next
 }
 
 // A line of what was counted of one kind.
-fn print_waits(what: &[u8], w: Waits) {
+fn print_waits(rt: &impl Print, what: &[u8], w: Waits) {
     let taken = with_count(with_bytes(blank(), what), w.taken, b" taken, ");
     let longest = with_count(taken, w.longest, b" waited as long as may be, ");
-    print(with_count(longest, w.behind, b" of these behind others\n"));
+    print(
+        rt,
+        with_count(longest, w.behind, b" of these behind others\n"),
+    );
 }
 
 // Lines with what was counted of the turns.
-pub fn print_served(s: Served) {
+pub fn print_served(rt: &impl Print, s: Served) {
     let urgent = s.urgent;
     let ordinary = s.ordinary;
-    print_waits(b"urgent jobs: ", urgent);
-    print_waits(b"ordinary jobs: ", ordinary);
+    print_waits(rt, b"urgent jobs: ", urgent);
+    print_waits(rt, b"ordinary jobs: ", ordinary);
     let passed = with_count(
         blank(),
         s.passed,
         b" ordinary jobs taken while an urgent one waited, ",
     );
-    print(with_count(passed, s.none, b" turns that took none\n"));
+    print(rt, with_count(passed, s.none, b" turns that took none\n"));
 }

@@ -1,4 +1,6 @@
 // A fixed generator of numbers, the random inputs that it draws, and random texts and stretches held to the brute force.
+#![tactic(auto)]
+
 mod characters;
 pub mod lists;
 pub mod samples;

@@ -5,7 +5,7 @@ use test_brute::texts::{closes, deeper, opens, partner};
 use test_words::plain::part;
 
 // A text of at most 12 bytes.
-#[derive(Drop)]
+#[derive(Clone, Copy)]
 pub struct Sample {
     pub len: usize,
     pub bytes: [u8; 12],

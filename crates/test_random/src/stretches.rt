@@ -31,44 +31,44 @@ fn ground(t: Nodes, a: usize, b: usize) -> usize {
 }
 
 // The runs that begin at a node.
-fn from_node(count: Count, s: &[u8], a: usize) -> Count {
+fn from_node(rt: &impl Print, count: Count, s: &[u8], a: usize) -> Count {
     let r = reading(s);
     let nodes = r.nodes;
     let mut next = count;
     for b in 0..13 {
-        next = counted(next, ground(nodes, a, b), stretch_right(s, r, a, b));
+        next = counted(rt, next, ground(nodes, a, b), stretch_right(s, r, a, b));
     }
     next
 }
 
-fn from_bytes(count: Count, bytes: [u8; 12], n: usize, a: usize) -> Count {
-    from_node(count, part(&bytes, 0, n), a)
+fn from_bytes(rt: &impl Print, count: Count, bytes: [u8; 12], n: usize, a: usize) -> Count {
+    from_node(rt, count, part(&bytes, 0, n), a)
 }
 
-fn all_runs(count: Count, sample: Sample) -> Count {
+fn all_runs(rt: &impl Print, count: Count, sample: Sample) -> Count {
     let bytes = sample.bytes;
     let n = sample.len;
     let mut next = count;
     for a in 0..13 {
-        next = from_bytes(next, bytes, n, a);
+        next = from_bytes(rt, next, bytes, n, a);
     }
     next
 }
 
-fn one(count: Count, sample: Sample) -> Count {
-    let next = all_runs(count, sample);
+fn one(rt: &impl Print, count: Count, sample: Sample) -> Count {
+    let next = all_runs(rt, count, sample);
     if count.wrong < next.wrong {
-        print_sample(b"  in a stretch of ", sample);
+        print_sample(rt, b"  in a stretch of ", sample);
     }
     next
 }
 
-pub fn stretches(cases: usize, seed: u64) -> Count {
+pub fn stretches(rt: &impl Print, cases: usize, seed: u64) -> Count {
     let mut state = seed;
     let mut count = none();
     for _ in 0..cases {
         let sample = structure(&mut state);
-        count = one(count, sample);
+        count = one(rt, count, sample);
     }
     count
 }

@@ -7,7 +7,7 @@ use test_words::{Text, blank, print, with_bytes, with_number};
 const GROUNDS: usize = 32;
 
 // Calls accepted, calls refused by ground, and those that are not answered as they must be.
-#[derive(Drop)]
+#[derive(Clone, Copy)]
 pub struct Count {
     pub accepted: usize,
     pub by_ground: [usize; GROUNDS],
@@ -16,7 +16,7 @@ pub struct Count {
 
 // What the random sessions count besides: those on an empty text, the seeds, the best chains compared, those of two seeds or more, those with
 // a tie, the open areas, and the seeds whose areas stand in another order in the paper's than by rising a.
-#[derive(Drop)]
+#[derive(Clone, Copy)]
 pub struct Seen {
     pub empty: usize,
     pub seeds: usize,
@@ -28,7 +28,7 @@ pub struct Seen {
 }
 
 // What is counted from case to case.
-#[derive(Drop)]
+#[derive(Clone, Copy)]
 pub struct Counts {
     pub count: Count,
     pub seen: Seen,
@@ -55,13 +55,13 @@ pub fn nothing() -> Seen {
 }
 
 // The first mistakes are printed, and all are counted.
-pub fn marked(c: Count, right: bool, what: &[u8]) -> Count {
+pub fn marked(rt: &impl Print, c: Count, right: bool, what: &[u8]) -> Count {
     let mut next = c;
     if !right {
         if c.wrong < 20 {
-            io::write_all(1, b"WRONG: ");
-            io::write_all(1, what);
-            io::write_all(1, b"\n");
+            test_words::print_bytes(rt, b"WRONG: ");
+            test_words::print_bytes(rt, what);
+            test_words::print_bytes(rt, b"\n");
         }
         next.wrong = more(c.wrong);
     }
@@ -69,7 +69,7 @@ pub fn marked(c: Count, right: bool, what: &[u8]) -> Count {
 }
 
 // One call more, refused on this ground or, if it is 0, accepted.
-pub fn counted(c: Count, ground: usize, right: bool) -> Count {
+pub fn counted(rt: &impl Print, c: Count, ground: usize, right: bool) -> Count {
     let mut next = c;
     if ground == 0 {
         next.accepted = more(c.accepted);
@@ -78,7 +78,7 @@ pub fn counted(c: Count, ground: usize, right: bool) -> Count {
         let before = c.by_ground[ground];
         next.by_ground[ground] = more(before);
     }
-    marked(next, right, b"an answer")
+    marked(rt, next, right, b"an answer")
 }
 
 // One session more, on two texts.
@@ -147,41 +147,44 @@ pub fn with_counts(t: Text, c: Count) -> Text {
 }
 
 // The same in a line.
-pub fn print_count(group: &[u8], c: Count) {
+pub fn print_count(rt: &impl Print, group: &[u8], c: Count) {
     let line = with_counts(with_bytes(blank(), group), c);
-    print(with_bytes(line, b"\n"));
+    print(rt, with_bytes(line, b"\n"));
 }
 
 // A line with what else was counted.
-pub fn print_seen(s: Seen) {
+pub fn print_seen(rt: &impl Print, s: Seen) {
     let empty = with_count(blank(), s.empty, b" on an empty text, ");
     let seeds = with_count(empty, s.seeds, b" seeds, ");
     let chains = with_count(seeds, s.chains, b" best chains, ");
     let longer = with_count(chains, s.longer, b" of two seeds or more, ");
     let ties = with_count(longer, s.ties, b" with a tie, ");
     let areas = with_count(ties, s.areas, b" open areas, ");
-    print(with_count(
-        areas,
-        s.reordered,
-        b" seeds whose two lists of areas differ\n",
-    ));
+    print(
+        rt,
+        with_count(
+            areas,
+            s.reordered,
+            b" seeds whose two lists of areas differ\n",
+        ),
+    );
 }
 
-fn print_bytes(bytes: [u8; 12], n: usize) {
-    io::write_all(1, part(&bytes, 0, n));
+fn print_bytes(rt: &impl Print, bytes: [u8; 12], n: usize) {
+    test_words::print_bytes(rt, part(&bytes, 0, n));
 }
 
 // The two texts of a session are printed if more is wrong after it than before.
-pub fn print_if_wrong(before: Count, after: Count, q: Sample, t: Sample) {
+pub fn print_if_wrong(rt: &impl Print, before: Count, after: Count, q: Sample, t: Sample) {
     if before.wrong < after.wrong {
-        print_sample(b"  in a session on ", q);
-        print_sample(b"  and ", t);
+        print_sample(rt, b"  in a session on ", q);
+        print_sample(rt, b"  and ", t);
     }
 }
 
-pub fn print_sample(what: &[u8], sample: Sample) {
+pub fn print_sample(rt: &impl Print, what: &[u8], sample: Sample) {
     let bytes = sample.bytes;
-    io::write_all(1, what);
-    print_bytes(bytes, sample.len);
-    io::write_all(1, b"\n");
+    test_words::print_bytes(rt, what);
+    print_bytes(rt, bytes, sample.len);
+    test_words::print_bytes(rt, b"\n");
 }

@@ -107,49 +107,49 @@ fn ground_bytes(bytes: [u8; 12], n: usize) -> usize {
     judge(part(&bytes, 0, n)).ground
 }
 
-fn one(count: Count, sample: Sample) -> Count {
+fn one(rt: &impl Print, count: Count, sample: Sample) -> Count {
     let bytes = sample.bytes;
     let right = right_bytes(bytes, sample.len);
-    let next = counted(count, ground_bytes(bytes, sample.len), right);
+    let next = counted(rt, count, ground_bytes(bytes, sample.len), right);
     if !right {
-        print_sample(b"  in the text ", sample);
+        print_sample(rt, b"  in the text ", sample);
     }
     next
 }
 
-pub fn texts(cases: usize, seed: u64) -> Count {
+pub fn texts(rt: &impl Print, cases: usize, seed: u64) -> Count {
     let mut state = seed;
     let mut count = none();
     for k in 0..cases {
         let sample = text(&mut state, k);
-        count = one(count, sample);
+        count = one(rt, count, sample);
     }
     count
 }
 
 // All texts of one byte.
-pub fn all_bytes() -> Count {
+pub fn all_bytes(rt: &impl Print) -> Count {
     let mut count = none();
     for a in 0..256 {
-        count = one(count, with_letter(empty(), small(a)));
+        count = one(rt, count, with_letter(empty(), small(a)));
     }
     count
 }
 
 // All texts of two bytes that begin with one.
-fn all_behind(count: Count, first: Sample) -> Count {
+fn all_behind(rt: &impl Print, count: Count, first: Sample) -> Count {
     let mut next = count;
     for b in 0..256 {
-        next = one(next, with_letter(first, small(b)));
+        next = one(rt, next, with_letter(first, small(b)));
     }
     next
 }
 
 // All texts of two bytes.
-pub fn all_two_bytes() -> Count {
+pub fn all_two_bytes(rt: &impl Print) -> Count {
     let mut count = none();
     for a in 0..256 {
-        count = all_behind(count, with_letter(empty(), small(a)));
+        count = all_behind(rt, count, with_letter(empty(), small(a)));
     }
     count
 }

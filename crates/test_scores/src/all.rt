@@ -40,32 +40,32 @@ fn bytes_right(minus: bool, size: usize, bytes: [u8; 12], n: usize) -> bool {
     text_right(minus, size, part(&bytes, 0, n))
 }
 
-fn one(count: Count, minus: bool, size: usize) -> Count {
+fn one(rt: &impl Print, count: Count, minus: bool, size: usize) -> Count {
     let text = spelled(minus, size);
     let bytes = text.bytes;
     let right = bytes_right(minus, size, bytes, text.len);
     if !right {
         if count.wrong < 20 {
-            print_sample(b"  in the score ", text);
+            print_sample(rt, b"  in the score ", text);
         }
     }
-    counted(count, 0, right)
+    counted(rt, count, 0, right)
 }
 
 // A size on both sides of zero.
-fn both(count: Count, size: usize) -> Count {
-    let above = one(count, false, size);
+fn both(rt: &impl Print, count: Count, size: usize) -> Count {
+    let above = one(rt, count, false, size);
     if size == 0 {
         return above;
     }
-    one(above, true, size)
+    one(rt, above, true, size)
 }
 
 // All 2,000,001 scores.
-pub fn all_scores() -> Count {
+pub fn all_scores(rt: &impl Print) -> Count {
     let mut count = none();
     for size in 0..1000001 {
-        count = both(count, size);
+        count = both(rt, count, size);
     }
     count
 }

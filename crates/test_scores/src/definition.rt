@@ -7,7 +7,7 @@ use test_words::plain::{more, small, within};
 
 // What stands in a text, walked from its front: whether a minus is first, the digits before the point, whether they begin with a zero, the
 // point, and the digits behind it; the number of all digits, which stays where it is far beyond every score; and whether a byte stands where it may not.
-#[derive(Drop)]
+#[derive(Clone, Copy)]
 struct Walk {
     minus: bool,
     before: usize,
@@ -121,7 +121,7 @@ fn is_score(w: Walk) -> bool {
 }
 
 // What reading a text must answer: a ground, or 0 with the sign and the size of the score.
-#[derive(Drop)]
+#[derive(Clone, Copy)]
 pub struct Meant {
     pub ground: usize,
     pub minus: bool,

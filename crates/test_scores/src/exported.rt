@@ -17,8 +17,7 @@ fn wide_score(score: i32) -> i64 {
 }
 
 // The score of a text, or 1,000,000,000 and the ground.
-#[unsafe(no_mangle)]
-pub extern "C" fn gurandyo_test_read_score(text: &[u8]) -> i64 {
+pub fn gurandyo_test_read_score(text: &[u8]) -> i64 {
     let read = decimal::read(text);
     let answer = read.answer;
     let ground = ground_of(answer);
@@ -29,8 +28,7 @@ pub extern "C" fn gurandyo_test_read_score(text: &[u8]) -> i64 {
 }
 
 // The length of a number's text, which is written to the output, or 1,000 and the ground.
-#[unsafe(no_mangle)]
-pub extern "C" fn gurandyo_test_write_score(number: i64, out: &mut [u8]) -> i64 {
+pub fn gurandyo_test_write_score(number: i64, out: &mut [u8]) -> i64 {
     let written = decimal::write(number, out);
     let answer = written.answer;
     let ground = ground_of(answer);

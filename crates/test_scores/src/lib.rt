@@ -1,4 +1,6 @@
 // Scores and totals as texts with two decimals, held to the words of document 02: all scores, random texts and random numbers.
+#![tactic(auto)]
+
 pub mod all;
 pub mod definition;
 pub mod exported;

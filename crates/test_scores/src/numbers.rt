@@ -87,26 +87,26 @@ fn bytes_right(number: i64, room: usize, bytes: [u8; 12], n: usize, ground: usiz
     text_right(number, room, part(&bytes, 0, n), ground)
 }
 
-fn one(count: Count, minus: bool, size: usize, room: usize) -> Count {
+fn one(rt: &impl Print, count: Count, minus: bool, size: usize, room: usize) -> Count {
     let text = text_of(minus, size);
     let bytes = text.bytes;
     let number = with_sign(minus, size);
     let ground = ground_asked(size, text.len, room);
     let right = bytes_right(number, room, bytes, length_asked(text.len, ground), ground);
     if !right {
-        print_sample(b"  in a number of the text ", text);
+        print_sample(rt, b"  in a number of the text ", text);
     }
-    counted(count, ground, right)
+    counted(rt, count, ground, right)
 }
 
-pub fn score_numbers(cases: usize, seed: u64) -> Count {
+pub fn score_numbers(rt: &impl Print, cases: usize, seed: u64) -> Count {
     let mut state = seed;
     let mut count = none();
     for _ in 0..cases {
         let minus = draw(&mut state, 2) == 0;
         let room = draw(&mut state, 13);
         let drawn = size(&mut state);
-        count = one(count, minus, drawn, room);
+        count = one(rt, count, minus, drawn, room);
     }
     count
 }

@@ -102,21 +102,21 @@ fn ground_bytes(bytes: [u8; 12], n: usize) -> usize {
     judge(part(&bytes, 0, n)).ground
 }
 
-fn one(count: Count, sample: Sample) -> Count {
+fn one(rt: &impl Print, count: Count, sample: Sample) -> Count {
     let bytes = sample.bytes;
     let right = right_bytes(bytes, sample.len);
     if !right {
-        print_sample(b"  in the text ", sample);
+        print_sample(rt, b"  in the text ", sample);
     }
-    counted(count, ground_bytes(bytes, sample.len), right)
+    counted(rt, count, ground_bytes(bytes, sample.len), right)
 }
 
-pub fn score_texts(cases: usize, seed: u64) -> Count {
+pub fn score_texts(rt: &impl Print, cases: usize, seed: u64) -> Count {
     let mut state = seed;
     let mut count = none();
     for _ in 0..cases {
         let sample = text(&mut state);
-        count = one(count, sample);
+        count = one(rt, count, sample);
     }
     count
 }

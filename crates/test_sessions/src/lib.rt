@@ -1,5 +1,7 @@
 // Random sessions on two small trees: eight lists are added and six changes made, with the best chain after each step; then the open areas of
 // every seed and the deck.
+#![tactic(auto)]
+
 mod look;
 pub mod play;
 
@@ -15,41 +17,41 @@ use test_random::samples::{Sample, respelled, structure};
 use test_random::tally::{Counts, marked, none, nothing, print_if_wrong, with_texts};
 use test_words::plain::part;
 
-fn adds(p: Play, state: &mut u64) -> Play
+fn adds(rt: &impl Print, p: Play, state: &mut u64) -> Play
     requires { Sound p.session }
     ensures { Sound result.session }
 {
     let mut next = p;
     for _ in 0usize..8 {
-        next = best(add(next, state));
+        next = best(rt, add(rt, next, state));
     }
     next
 }
 
-fn changes(p: Play, state: &mut u64) -> Play
+fn changes(rt: &impl Print, p: Play, state: &mut u64) -> Play
     requires { Sound p.session }
     ensures { Sound result.session }
 {
     let mut next = p;
     for _ in 0usize..6 {
-        next = best(change(next, state));
+        next = best(rt, change(rt, next, state));
     }
     next
 }
 
-fn all_areas(p: Play) -> Play
+fn all_areas(rt: &impl Print, p: Play) -> Play
     requires { Sound p.session }
     ensures { Sound result.session }
 {
     let mut next = p;
     for i in 0..8 {
-        next = list_areas(next, i);
+        next = list_areas(rt, next, i);
     }
     next
 }
 
 // The session of a random case once all is done to it.
-fn played(q: &[u8], t: &[u8], state: &mut u64, counts: Counts) -> Play
+fn played(rt: &impl Print, q: &[u8], t: &[u8], state: &mut u64, counts: Counts) -> Play
     ensures { Sound result.session }
 {
     let opened = chain::open(q, t);
@@ -66,22 +68,23 @@ fn played(q: &[u8], t: &[u8], state: &mut u64, counts: Counts) -> Play
         count,
         seen,
     };
-    all_areas(changes(adds(start, state), state))
+    all_areas(rt, changes(rt, adds(rt, start, state), state))
 }
 
 // A random case on two texts, with its deck.
-fn on_texts(q: &[u8], t: &[u8], state: &mut u64, counts: Counts) -> Counts {
-    let p = played(q, t, state, counts);
+fn on_texts(rt: &impl Print, q: &[u8], t: &[u8], state: &mut u64, counts: Counts) -> Counts {
+    let p = played(rt, q, t, state, counts);
     let right = deal(p, q, t);
     let after = p.count;
     let seen = p.seen;
     Counts {
-        count: marked(after, right, b"a deck"),
+        count: marked(rt, after, right, b"a deck"),
         seen,
     }
 }
 
 fn on_bytes(
+    rt: &impl Print,
     q: [u8; 12],
     n: usize,
     t: [u8; 12],
@@ -89,7 +92,7 @@ fn on_bytes(
     state: &mut u64,
     counts: Counts,
 ) -> Counts {
-    on_texts(part(&q, 0, n), part(&t, 0, m), state, counts)
+    on_texts(rt, part(&q, 0, n), part(&t, 0, m), state, counts)
 }
 
 // What is counted from case to case, with one on two texts more.
@@ -103,13 +106,13 @@ fn begun(q: Sample, t: Sample, counts: Counts) -> Counts {
 }
 
 // One random case: its two texts are printed if an answer in it is wrong.
-fn one(q: Sample, t: Sample, state: &mut u64, counts: Counts) -> Counts {
+fn one(rt: &impl Print, q: Sample, t: Sample, state: &mut u64, counts: Counts) -> Counts {
     let before = counts.count;
     let q_bytes = q.bytes;
     let t_bytes = t.bytes;
-    let next = on_bytes(q_bytes, q.len, t_bytes, t.len, state, counts);
+    let next = on_bytes(rt, q_bytes, q.len, t_bytes, t.len, state, counts);
     let after = next.count;
-    print_if_wrong(before, after, q, t);
+    print_if_wrong(rt, before, after, q, t);
     next
 }
 
@@ -122,20 +125,20 @@ pub fn other(q: Sample, state: &mut u64) -> Sample {
 }
 
 // One random session.
-fn session(state: &mut u64, counts: Counts) -> Counts {
+fn session(rt: &impl Print, state: &mut u64, counts: Counts) -> Counts {
     let q = structure(state);
     let t = other(q, state);
-    one(q, t, state, begun(q, t, counts))
+    one(rt, q, t, state, begun(q, t, counts))
 }
 
-pub fn sessions(cases: usize, seed: u64) -> Counts {
+pub fn sessions(rt: &impl Print, cases: usize, seed: u64) -> Counts {
     let mut state = seed;
     let mut counts = Counts {
         count: none(),
         seen: nothing(),
     };
     for _ in 0..cases {
-        counts = session(&mut state, counts);
+        counts = session(rt, &mut state, counts);
     }
     counts
 }

@@ -85,7 +85,7 @@ fn best_of(session: Session) -> Best
 }
 
 // The best chain is compared.
-pub fn best(p: Play) -> Play
+pub fn best(rt: &impl Print, p: Play) -> Play
     requires { Sound p.session }
     ensures { Sound result.session }
 {
@@ -98,13 +98,13 @@ pub fn best(p: Play) -> Play
     noted(
         p,
         with_choice(seen, choice),
-        marked(count, right, b"a best chain"),
+        marked(rt, count, right, b"a best chain"),
     )
 }
 
 // Whether the areas that a session lists of a seed are right, and those in the paper's order, how many there are, and whether they stand by rising
 // a in that order too.
-#[derive(Drop)]
+#[derive(Clone, Copy)]
 struct Listing {
     right: bool,
     paper: bool,
@@ -192,14 +192,14 @@ fn row_right(p: Play, i: usize) -> bool
 }
 
 // Whether the row and the areas of a seed are right is counted.
-fn with_seed(c: Count, row: bool, l: Listing) -> Count {
-    let rows = marked(c, row, b"a row");
-    let areas = marked(rows, l.right, b"open areas");
-    marked(areas, l.paper, b"open areas in the paper's order")
+fn with_seed(rt: &impl Print, c: Count, row: bool, l: Listing) -> Count {
+    let rows = marked(rt, c, row, b"a row");
+    let areas = marked(rt, rows, l.right, b"open areas");
+    marked(rt, areas, l.paper, b"open areas in the paper's order")
 }
 
 // The open areas and the row of the seed at a place of the table are compared, if there is one.
-pub fn list_areas(p: Play, i: usize) -> Play
+pub fn list_areas(rt: &impl Print, p: Play, i: usize) -> Play
     requires { Sound p.session }
     ensures { Sound result.session }
 {
@@ -213,7 +213,7 @@ pub fn list_areas(p: Play, i: usize) -> Play
     noted(
         p,
         with_areas(seen, l.count, l.rises),
-        with_seed(count, row_right(p, i), l),
+        with_seed(rt, count, row_right(p, i), l),
     )
 }
 

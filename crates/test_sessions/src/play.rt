@@ -14,7 +14,7 @@ use test_words::answers::{ground_of, kind_of, place_of};
 use test_words::plain::{less, more, part, within};
 
 // The session and its trees, the table of its seeds, and what is counted.
-#[derive(Drop)]
+#[derive(Clone, Copy)]
 pub struct Play {
     pub session: Session,
     pub trees: Trees,
@@ -71,7 +71,7 @@ pub fn added(session: Session, qs: [u8; 4], ts: [u8; 4], n: usize, score: i32) -
 }
 
 // One random list is added.
-pub fn add(p: Play, state: &mut u64) -> Play
+pub fn add(rt: &impl Print, p: Play, state: &mut u64) -> Play
     requires { Sound p.session }
     ensures { Sound result.session }
 {
@@ -94,7 +94,7 @@ pub fn add(p: Play, state: &mut u64) -> Play
     let mut next = p;
     next.session = later;
     next.table = with_new(table, trees, l, points, ground);
-    next.count = counted(count, ground, right);
+    next.count = counted(rt, count, ground, right);
     next.seen = with_seeds(seen, ground);
     next
 }
@@ -122,7 +122,7 @@ fn with_moved(t: Table, number: usize, to: bool, ground: usize) -> Table {
     t
 }
 
-fn answered(p: Play, r: Changed, ground: usize, table: Table) -> Play
+fn answered(rt: &impl Print, p: Play, r: Changed, ground: usize, table: Table) -> Play
     requires { Sound r.session }
     ensures { Sound result.session }
 {
@@ -133,12 +133,12 @@ fn answered(p: Play, r: Changed, ground: usize, table: Table) -> Play
     let mut next = p;
     next.session = session;
     next.table = table;
-    next.count = counted(count, ground, right);
+    next.count = counted(rt, count, ground, right);
     next
 }
 
 // A seed is withdrawn, or brought back if it is to be present.
-fn move_to(p: Play, number: usize, to: bool) -> Play
+fn move_to(rt: &impl Print, p: Play, number: usize, to: bool) -> Play
     requires { Sound p.session }
     ensures { Sound result.session }
 {
@@ -146,7 +146,7 @@ fn move_to(p: Play, number: usize, to: bool) -> Play
     let table = p.table;
     let ground = move_ground(table, number, to);
     let later = with_moved(table, number, to, ground);
-    answered(p, moved(session, number, to), ground, later)
+    answered(rt, p, moved(session, number, to), ground, later)
 }
 
 fn rescore_ground(t: Table, number: usize) -> usize {
@@ -160,7 +160,7 @@ fn with_rescored(t: Table, number: usize, points: usize, ground: usize) -> Table
     t
 }
 
-fn rescore(p: Play, number: usize, points: usize) -> Play
+fn rescore(rt: &impl Print, p: Play, number: usize, points: usize) -> Play
     requires { Sound p.session }
     ensures { Sound result.session }
 {
@@ -168,11 +168,17 @@ fn rescore(p: Play, number: usize, points: usize) -> Play
     let table = p.table;
     let ground = rescore_ground(table, number);
     let later = with_rescored(table, number, points, ground);
-    answered(p, session.rescored(number, score_of(points)), ground, later)
+    answered(
+        rt,
+        p,
+        session.rescored(number, score_of(points)),
+        ground,
+        later,
+    )
 }
 
 // One random change.
-pub fn change(p: Play, state: &mut u64) -> Play
+pub fn change(rt: &impl Print, p: Play, state: &mut u64) -> Play
     requires { Sound p.session }
     ensures { Sound result.session }
 {
@@ -180,10 +186,10 @@ pub fn change(p: Play, state: &mut u64) -> Play
     let number = draw(state, more(more(table.count)));
     let way = draw(state, 5);
     if way < 2 {
-        return move_to(p, number, false);
+        return move_to(rt, p, number, false);
     }
     if way < 3 {
-        return move_to(p, number, true);
+        return move_to(rt, p, number, true);
     }
-    rescore(p, number, draw(state, 11))
+    rescore(rt, p, number, draw(state, 11))
 }

@@ -1,14 +1,18 @@
 // Bytes, words and lines of text: a script is read by them, and what a call answers is put into words.
+#![tactic(auto)]
+
 pub mod answers;
 pub mod line;
 pub mod plain;
 pub mod signed;
 pub mod spelled;
 
+use itoa::Buffer;
 use plain::part;
+use std::io::{self, Write};
 
 // A line of text that is put together piece by piece.
-#[derive(Drop)]
+#[derive(Clone, Copy)]
 pub struct Text {
     pub len: usize,
     pub bytes: [u8; 512],
@@ -40,9 +44,8 @@ pub fn with_bytes(t: Text, bytes: &[u8]) -> Text {
 }
 
 pub fn with_number(t: Text, n: usize) -> Text {
-    let mut digits = [0u8; 20];
-    let k = io::decimal(n as u64, &mut digits);
-    with_bytes(t, &digits[..k])
+    let mut digits = Buffer::new();
+    with_bytes(t, digits.format(n).as_bytes())
 }
 
 // A space and a number.
@@ -96,11 +99,12 @@ pub fn begins(t: Text, byte: u8) -> bool {
     t.bytes[0] == byte
 }
 
-fn print_bytes(bytes: [u8; 512], n: usize) {
-    io::write_all(1, part(&bytes, 0, n));
+// Prints bytes as they are. An output that takes no more is left to whoever reads it.
+pub fn print_bytes(rt: &impl Print, bytes: &[u8]) {
+    let _ = io::writer(rt).write_all(bytes);
 }
 
-pub fn print(t: Text) {
+pub fn print(rt: &impl Print, t: Text) {
     let bytes = t.bytes;
-    print_bytes(bytes, t.len);
+    print_bytes(rt, part(&bytes, 0, t.len));
 }

@@ -98,7 +98,7 @@ pub fn score(s: &[u8], at: usize) -> i32 {
 }
 
 // The pairs of a seed, as far as count.
-#[derive(Drop)]
+#[derive(Clone, Copy)]
 pub struct Pairs {
     pub count: usize,
     pub qs: [u8; 64],

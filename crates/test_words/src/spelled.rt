@@ -16,7 +16,7 @@ fn hex_digit(c: u8) -> u8 {
 }
 
 // How far a word of hexadecimal digits is read: the bytes put, and the first digit of the next byte if it is there.
-#[derive(Drop)]
+#[derive(Clone, Copy)]
 struct Half {
     bytes: usize,
     high: u8,

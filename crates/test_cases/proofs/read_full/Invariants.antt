@@ -1,0 +1,9 @@
+-- What is read stays within the input. The measure is the room left.
+use Rattle.std.proofs.Common.{◌-◌, ◌≤◌, length}
+use Rattle.test_cases.proofs.read_full.Given as goal
+
+abbrev pub invariant-loop-end : goal.invariant-loop-end
+invariant-loop-end g l = l.end ≤ length l.input
+
+abbrev pub decreases-loop-end : goal.decreases-loop-end
+decreases-loop-end g l = length l.input - l.end
