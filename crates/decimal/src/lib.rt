@@ -77,6 +77,7 @@ pub fn read(text: &[u8]) -> ScoreRead
 }
 
 // Whether a number of hundredths is beyond every total, on either side of zero.
+#[tactic(auto, unfolding(crate::specs::Score::beyond))]
 fn is_beyond(number: i64) -> bool
     ensures { result ≡ beyond number }
 {

@@ -14,6 +14,7 @@ pub struct Size {
 }
 
 // The size of the present seeds.
+#[tactic(auto, using(crate::proofs::Turns::size_few))]
 pub fn size_of(table: Table) -> Size
     requires { Laid table }
     ensures { result ≡ size_of (present_rows (rows_of table)) }

@@ -3,18 +3,12 @@ use mathlib.Core.List.{flatten}
 use Rattle.seed.specs.Tab.{tab}
 use Rattle.table.specs.Rows.{present_rows}
 use Rattle.plain.specs.inner.Writing.{size_of}
-use Rattle.plain.proofs.Turns.{size_few, size_same, size_more, passed_all}
+use Rattle.plain.proofs.Turns.{size_same, size_more, passed_all}
 use Rattle.plain.proofs.size.size_of.Goals as goal
 
 pub loop-i-init : goal.loop-i-init
 unfolding present_rows tab flatten
 loop-i-init c = (omega arith, refl)
-
-pub overflow_add-size : goal.overflow_add-size
-overflow_add-size c = omega (arith, size_few c.args.table c.requires c.loop-i.invariant.1 c.loop-i-test.true)
-
-pub overflow_add-size-then-table-seed : goal.overflow_add-size-then-table-seed
-overflow_add-size-then-table-seed c = omega (arith, size_few c.args.table c.requires c.loop-i.invariant.1 c.loop-i-test.true, ap length c.nodes_of-part.ensures)
 
 pub loop-i-preserved-then-table-seed : goal.loop-i-preserved-then-table-seed
 loop-i-preserved-then-table-seed c =
