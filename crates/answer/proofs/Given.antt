@@ -1,11 +1,9 @@
 -- What a chain of grounds says of the answer.
 use mathlib.Core.Path.{◌≡◌, refl, sym, ap, ◌∙◌}
 use mathlib.Core.Bool.{Bool, true, false, not}
-use Rattle.answer.specs.Answer.{given, unless}
+use Rattle.answer.specs.Answer.{given, unless, Answer, Accepted, Refused}
 use Rattle.answer.specs.declared.Ground.{Ground}
 use Rattle.answer.specs.declared.Place.{Place}
-use Rattle.answer.specs.declared.Answer.{Answer}
-use Rattle.answer.specs.declared.Answer.TheVariants.{Accepted, Refused}
 use Rattle.answer.proofs.Denied.{denies}
 
 -- A test that a call answered.

@@ -3,13 +3,11 @@ use mathlib.Core.Path.{◌≡◌, refl, sym, ap, subst}
 use mathlib.Core.Bool.{Bool, true, false, false≢true}
 use Prim.Native.Nat.{ℕ, ◌<◌}
 use native.Mathlib.Omega.{arith}
-use Rattle.answer.specs.Answer.{Said, said, number_of, given, unless}
+use Rattle.answer.specs.Answer.{Said, said, number_of, given, unless, Answer, Accepted, Refused}
 use Rattle.answer.specs.Answer.Said.{accepted, refused}
 use Rattle.answer.specs.Grounds.{GivenIf, holds, fails, First, Never, GivenFirst, at_first, never, ◌then◌, earlier, later, Decides}
 use Rattle.answer.specs.declared.Ground.{Ground}
 use Rattle.answer.specs.declared.Place.{Place}
-use Rattle.answer.specs.declared.Answer.{Answer}
-use Rattle.answer.specs.declared.Answer.TheVariants.{Accepted, Refused}
 use Rattle.answer.proofs.Denied.{clash}
 use Rattle.answer.specs.Tells.{Tells}
 

@@ -1,16 +1,14 @@
--- The numbered grounds for turning a call down (document 01, and 23 to 25 and 31 of document 02), and what an answer says by them.
+-- The numbered grounds for turning a call down, and what an answer says by them.
 use Rattle.std.specs.Prelude.{Bool, true, false, ℕ}
 use Rattle.answer.specs.declared.Ground.{Ground}
 use Rattle.answer.specs.declared.Ground.TheVariants.{TextLength, UnknownByte, ClosesNothing, NeverClosed, DeckLayout, PairIndex, PairReachedTwice, PairNeverReached, NumberNotGiven, PresenceAsAsked, ScoreRange, NoPairs, SeedLimit, PairLimit, OutsideTree, NotRising, AncestryDiffers, LastNotAncestor, BorderUnpaired, ChangeLimit, ScratchShort, OutputShort, ScoreText, ClosesOtherKind, UnlikeNodes, QueueFull}
 use Rattle.answer.specs.declared.Place.{Place}
-use Rattle.answer.specs.declared.Answer.{Answer}
-use Rattle.answer.specs.declared.Answer.TheVariants.{Accepted, Refused}
 
 -- The number of a ground. The order in which a call meets its grounds is not that of their numbers: 24 comes after 4, and 25 between 15 and 16.
 abbrev pub number_of : Ground → ℕ
--- A text has length above 255 (document 02, f, where 01 had 0 too).
+-- A text has length above 255.
 number_of TextLength = 1
--- A byte is neither unpaired nor a bracket (document 02, b, where 01 had dot, "(" and ")").
+-- A byte is neither unpaired nor a bracket.
 number_of UnknownByte = 2
 -- A closing bracket closes nothing.
 number_of ClosesNothing = 3
@@ -52,16 +50,21 @@ number_of ChangeLimit = 20
 number_of ScratchShort = 21
 -- The output is shorter than what is to be written.
 number_of OutputShort = 22
--- A score text has another form, or stands for a score beyond the bounds (document 02, a).
+-- A score text has another form, or stands for a score beyond the bounds.
 number_of ScoreText = 23
--- A closing bracket has a partner of another kind (document 02, b).
+-- A closing bracket has a partner of another kind.
 number_of ClosesOtherKind = 24
--- A pair is of unlike nodes (document 02, c).
+-- A pair is of unlike nodes.
 number_of UnlikeNodes = 25
--- A job is offered while 16 wait (document 02, n).
+-- A job is offered while 16 wait.
 number_of QueueFull = 31
 
--- What an answer says: the call is accepted, or it is refused on the ground of this number at this place.
+-- What a call answers: it is accepted, or refused on a ground at a place.
+pub data Answer : Type 0 where
+  Accepted : Answer
+  Refused : Ground → Place → Answer
+
+-- What an answer says in numbers: the call is accepted, or it is refused on the ground of this number at this place.
 pub data Said : Type 0 where
   accepted : Said
   refused : ℕ → Place → Said

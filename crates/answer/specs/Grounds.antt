@@ -1,8 +1,7 @@
--- How grounds are said (document 01, "Numbered grounds"): each is given if its condition holds, unless an earlier one is, and never otherwise.
+-- How grounds are said: each is given if its condition holds, unless an earlier one is, and never otherwise.
 use Rattle.std.specs.Prelude.{◌≡◌, ℕ, ◌<◌}
-use Rattle.answer.specs.Answer.{Said, said}
+use Rattle.answer.specs.Answer.{Said, said, Answer}
 use Rattle.answer.specs.Answer.Said.{accepted, refused}
-use Rattle.answer.specs.declared.Answer.{Answer}
 use Rattle.answer.specs.declared.Place.{Place}
 
 -- One ground with its number and its place: it is given exactly if its condition holds.

@@ -1,4 +1,5 @@
--- What a reader believes, in document 01's order.
+-- What a reader believes: the grounds and answers, results, and how grounds are said.
 pub mod Answer
+pub mod Refusal
 pub mod Grounds
 pub mod Tells

@@ -2,7 +2,8 @@
 use mathlib.Core.Path.{◌≡◌, refl}
 use mathlib.Core.List.{List, [], ◌∷◌}
 use Prim.Native.Nat.{ℕ}
-use Rattle.answer.specs.declared.Answer.TheVariants.{Accepted, Refused}
+use Rattle.std.specs.Prelude.{Ok, Err}
+use Rattle.answer.specs.Refusal.{refusal_at}
 use Rattle.answer.specs.declared.Ground.TheVariants.{OutputShort}
 use Rattle.answer.specs.declared.Place.TheVariants.{Nothing}
 use Rattle.write.specs.Decimal.{bytes, digits, decimal}
@@ -29,6 +30,6 @@ pub outputs_written : output_of (bytes "ab") room ∷ output_of (bytes "abcd") r
 unfolding output_of
 outputs_written = refl
 
-pub rooms_judged : written_of (bytes "abc") 3 ∷ written_of (bytes "abc") 2 ∷ [] ≡ record { answer = Accepted; length = 3 } ∷ record { answer = Refused OutputShort Nothing; length = 0 } ∷ []
+pub rooms_judged : written_of (bytes "abc") 3 ∷ written_of (bytes "abc") 2 ∷ [] ≡ Ok 3 ∷ Err (refusal_at OutputShort Nothing) ∷ []
 unfolding written_of
 rooms_judged = refl
