@@ -1,20 +1,23 @@
 -- Passing the nodes between two listed ones: which of them are in the span, and which are unpaired border nodes.
-use mathlib.Core.Path.{◌≡◌, refl, sym, ◌∙◌}
+use mathlib.Core.Path.{◌≡◌, refl, sym, ap, ◌∙◌}
 use mathlib.Core.Bool.{Bool, true, false, not, ◌&&◌, ◌||◌, true≢false, false≢true}
 use mathlib.Core.Logic.{◌⊎◌, inl, inr}
 use mathlib.Core.List.{List}
 use Prim.Native.Nat.{ℕ, suc, ◌+◌, ◌-◌, ◌≤◌, ◌<◌}
 use native.Mathlib.Omega.{arith}
-use lib.Dec.{eqb, leb}
-use lib.ListN.{length, get_or, set, length-set}
-use lib.Seq.{get_or-set_same}
-use borrow.Author.Tests.{leb-true, leb-false}
+use lib.Dec.{eqb}
+use lib.ListN.{length, get_or, set, length-set, take, drop, length-drop}
+use lib.Seq.{length-take-le, get_or-set_same}
+use Rattle.std.specs.Prelude.{Option, Some, None}
+use Rattle.std.specs.Bool.{MatchBool}
+use Rattle.std.proofs.lemmas.List.{get_or-take, get_or-drop}
+use Rattle.std.specs.List.{HoldsAt, AllWithin}
 use Rattle.tree.specs.Nested.{leaf, In}
 use Rattle.tree.proofs.Leaves.{lt_or_le}
 use Rattle.seed.specs.Seed.{◌∈◌, last_node}
 use Rattle.seed.specs.Tests.{some, spans, children, paired, bordered}
 use Rattle.seed.proofs.Trees.{within}
-use Rattle.seed.proofs.Lists.{span_holds}
+use Rattle.seed.proofs.Lists.{span_holds, at_in, in_at}
 use Rattle.seed.proofs.Tells.{tells_in, tells_below}
 use Rattle.seed.proofs.Sides.{tells_spans}
 use Rattle.seed.proofs.Search.{least}
@@ -22,34 +25,48 @@ use Rattle.judge.proofs.JudgeSteps.{last_node_at, spans_in, paired_in, paired_by
 use Rattle.judge.specs.inner.Steps.{Cut, UnderLast, Joined, Joins, Reaching, Past, Climbing, Passed}
 use Rattle.judge.specs.inner.Steps.Joined.{whole, broken}
 use Rattle.judge.specs.inner.Steps.Passed.{fine, bare}
-use Rattle.seed.proofs.Lists.{at_in, in_at}
 use Rattle.judge.proofs.Rising.{ups_most}
 use Rattle.judge.proofs.Tops.{never, tops_skip, tops_put}
 
--- A scan for a subtree that starts early enough.
-pub reach_start : (l : List ℕ) (a x : ℕ) → Reaching l a a x false
-reach_start l a x = record { some = λ e. absurd (false≢true e); none = λ e y u v. absurd (omega arith) }
+-- A look for a subtree that starts early enough.
+module _ (l : List ℕ) {a b : ℕ} (run : a ≤ b) (within : b ≤ length l) where
+  abbrev pub part : List ℕ
+  part = take (b - a) (drop a l)
 
-pub reach_on : {l : List ℕ} {a y x : ℕ} {r s : Bool} → Reaching l a y x r → a ≤ y → s ≡ (r || leb (get_or l y 0) x) → Reaching l a (y + 1) x s
-unfolding leaf
-reach_on {l = l} {a = a} {y = y} {x = x} {r = true} p h e =
-    record {
-      some = λ d. let w = p.some refl in (w.0, w.1, omega (arith, w.2), w.3);
-      none = λ d z u v. absurd (true≢false (sym e ∙ d));
-    }
-reach_on {l = l} {a = a} {y = y} {x = x} {r = false} p h e =
-    record {
-      some = λ d. (y, h, omega arith, leb-true (get_or l y 0) x (sym e ∙ d));
-      none = λ d z u v.
-          elim (lt_or_le z y) [
-            | inl w ↦ p.none refl z u w
-            | inr w ↦ let g : z ≡ y = omega arith in rw g (leb-false (get_or l y 0) x (sym e ∙ d))
-          ];
-    }
+  length_part : length part ≡ b - a
+  length_part = length-take-le (b - a) (drop a l) (omega (arith, length-drop a l))
+
+  part_at : (k : ℕ) → k < b - a → get_or part k 0 ≡ get_or l (a + k) 0
+  part_at k h = get_or-take (b - a) (drop a l) k 0 h ∙ get_or-drop a l k 0
+
+  pub reach_by : (x : ℕ) (r : Bool) → MatchBool r ((k : ℕ) × (k < length part) × HoldsAt (λ y. y ≤ x) part k) (AllWithin (λ y. x < y) part 0 (length part)) → Reaching l a b x r
+  unfolding leaf
+  reach_by x true h =
+      record {
+        some = λ e. (a + h.0, omega arith, omega (arith, length_part, h.1), omega (arith, h.2 0, part_at h.0 (omega (arith, length_part, h.1))));
+        none = λ e y u v. absurd (true≢false e);
+      }
+  reach_by x false h =
+      record {
+        some = λ e. absurd (false≢true e);
+        none = λ e y u v.
+            let d : a + (y - a) ≡ y = omega arith in
+            let w : x < get_or part (y - a) 0 = h (y - a) 0 (omega arith) (omega (arith, length_part)) in
+            let z : get_or part (y - a) 0 ≡ get_or l y 0 = part_at (y - a) (omega arith) ∙ ap (λ (k : ℕ). get_or l k 0) d in
+            omega arith;
+      }
 
 or_true : (b c : Bool) → (b || true || c) ≡ true
 or_true true c = refl
 or_true false c = refl
+
+-- What is known of a node's children.
+module _ {f : ℕ → Bool} {l tops : List ℕ} {count x : ℕ} where
+  joined_no : Joined f l tops count x None → children f l (leaf l x) x x ≡ false
+  joined_no (broken d) = d
+
+  joined_all : {left : ℕ} → Joined f l tops count x (Some left) → (left < count) × Cut count tops (leaf l x) left × (children f l (leaf l x) x x ≡ true)
+  joined_all (whole u c d) = (u, c, d)
 
 -- A node outside the span is no border node.
 paired_out : (l xs : List ℕ) (x : ℕ) → spans l xs x ≡ false → paired l xs x ≡ true
@@ -190,42 +207,39 @@ module _ {l xs : List ℕ} (p : UnderLast l xs) where
       over_paired y h g e = paired_by l xs y (unlisted y (omega (arith, q.from)) g) (over_spans y h g e) (λ d. omega arith)
 
       -- Node x is no leaf: v is its leftmost leaf.
-      module _ (h : x < next) {v : ℕ} (leftmost : v ≡ leaf l x) (no-leaf : v < x) {left : ℕ} (joins : Joins l tops count x left) where
+      module _ (h : x < next) {v : ℕ} (leftmost : v ≡ leaf l x) (no-leaf : v < x) {o : Option ℕ} (joins : Joins l tops count x o) where
         inner : leaf l x < x
         inner = omega arith
 
-        j : Joined (spans l xs) l tops count x left
+        j : Joined (spans l xs) l tops count x o
         j = joins (spans l xs) p.tree q.past.highest q.top inner
 
-        pub climb_no : left ≡ count → bordered l xs ≡ false
-        climb_no e =
-            elim j [
-              | whole u c d ↦ absurd (omega arith)
-              | broken u d ↦ bare_at x (omega (arith, next_most)) (over_paired x (omega arith) h inner ∙ d)
-            ]
+        pub climb_no : o ≡ None → bordered l xs ≡ false
+        climb_no e = bare_at x (omega (arith, next_most)) (over_paired x (omega arith) h inner ∙ joined_no (rw e at j))
 
-        pub climb_left : (left ≡ count → ⊥) → left < count
-        climb_left n = elim j [ whole u c d ↦ u | broken u d ↦ absurd (n u) ]
+        module _ {left : ℕ} (e : o ≡ Some left) where
+          w : (left < count) × Cut count tops (leaf l x) left × (children (spans l xs) l (leaf l x) x x ≡ true)
+          w = joined_all (rw e at j)
 
-        pub climb_on : (left ≡ count → ⊥) → x < 256 → Climb l xs place (set tops left x) (left + 1) (x + 1)
-        climb_on n small = elim j [ whole u c d ↦ on u c d | broken u d ↦ absurd (n u) ]
-          where
-            on : left < count → Cut count tops (leaf l x) left → children (spans l xs) l (leaf l x) x x ≡ true → Climb l xs place (set tops left x) (left + 1) (x + 1)
-            on u c d =
-                let room : left < length tops = omega (arith, q.past.highest.few, q.past.room) in
-                let z : left + 1 - 1 ≡ left = omega arith in
-                record {
-                  past =
-                      record {
-                        room = length-set tops left x ∙ q.past.room;
-                        highest = tops_put p.tree q.past.highest c room (over_spans x (omega arith) h inner);
-                        fine = λ y v. elim (lt_or_le y x) [ inl w ↦ q.past.fine y w | inr w ↦ let e : y ≡ x = omega arith in rw e (over_paired x (omega arith) h inner ∙ d) ];
-                      };
-                  some = omega arith;
-                  top = rw (z, get_or-set_same tops left x 0 room);
-                  from = omega (arith, q.from);
-                  to = omega arith;
-                }
+          pub climb_left : left < count
+          climb_left = w.0
+
+          pub climb_on : x < 256 → Climb l xs place (set tops left x) (left + 1) (x + 1)
+          climb_on small =
+              let room : left < length tops = omega (arith, w.0, q.past.highest.few, q.past.room) in
+              let z : left + 1 - 1 ≡ left = omega arith in
+              record {
+                past =
+                    record {
+                      room = length-set tops left x ∙ q.past.room;
+                      highest = tops_put p.tree q.past.highest w.1 room (over_spans x (omega arith) h inner);
+                      fine = λ y v. elim (lt_or_le y x) [ inl u ↦ q.past.fine y u | inr u ↦ let d : y ≡ x = omega arith in rw d (over_paired x (omega arith) h inner ∙ w.2) ];
+                    };
+                some = omega arith;
+                top = rw (z, get_or-set_same tops left x 0 room);
+                from = omega (arith, q.from);
+                to = omega arith;
+              }
 
       -- A node from x on whose subtree starts before x.
       abbrev Early : ℕ → Type 0
@@ -240,9 +254,9 @@ module _ {l xs : List ℕ} (p : UnderLast l xs) where
 
       -- The climb has ended: the node is a leaf, or the next listed one.
       module _ {r : Bool} (g : Reaching l x next (x - 1) r) where
-        pub climb_end : r ≡ false → Passed l xs place tops count
+        pub climb_end : r ≡ false → Passed l xs place tops (Some count)
         climb_end e =
-            fine q.some
+            fine
             (record {
               room = q.past.room;
               highest = tops_skip p.tree q.past.highest next q.to out;
@@ -252,8 +266,8 @@ module _ {l xs : List ℕ} (p : UnderLast l xs) where
             out : (z : ℕ) → x ≤ z → z < next → spans l xs z ≡ false
             out z u v = spans_out z (omega (arith, g.none e z u v, q.from)) v
 
-        pub climb_bare : r ≡ true → (x < next → x ≤ leaf l x) → Passed l xs place tops 0
-        climb_bare e stop = bare refl q.past.room (found (g.some e))
+        pub climb_bare : r ≡ true → (x < next → x ≤ leaf l x) → Passed l xs place tops None
+        climb_bare e stop = bare (found (g.some e))
           where
             behind : (z : ℕ) → Early z → z < next → x < z
             behind z h u =
@@ -277,15 +291,9 @@ module _ {l xs : List ℕ} (p : UnderLast l xs) where
                 (over_paired z here.0 most here.1 ∙ walk_no p.tree walk_start (omega (arith, here)) (spans_out (z - 1) (omega (arith, q.from)) (omega arith)))
 
 -- What is known after a listed node is passed.
-module _ {l xs : List ℕ} {place : ℕ} {tops : List ℕ} {count : ℕ} where
-  pub passed_room : Passed l xs place tops count → length tops ≡ 256
-  passed_room (fine h q) = q.room
-  passed_room (bare h e d) = e
+module _ {l xs : List ℕ} {place : ℕ} {tops : List ℕ} where
+  pub passed_bare : Passed l xs place tops None → bordered l xs ≡ false
+  passed_bare (bare d) = d
 
-  pub passed_bare : Passed l xs place tops count → count ≡ 0 → bordered l xs ≡ false
-  passed_bare (fine h q) e = absurd (omega arith)
-  passed_bare (bare h e d) f = d
-
-  pub passed_on : Passed l xs place tops count → (count ≡ 0 → ⊥) → Past l xs tops count (get_or xs (place + 1) 0)
-  passed_on (fine h q) n = q
-  passed_on (bare h e d) n = absurd (n h)
+  pub passed_on : {count : ℕ} → Passed l xs place tops (Some count) → Past l xs tops count (get_or xs (place + 1) 0)
+  passed_on (fine q) = q

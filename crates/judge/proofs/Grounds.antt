@@ -9,7 +9,7 @@ use borrow.Author.Tests.{not-false}
 use Rattle.answer.specs.Grounds.{Decides}
 use Rattle.answer.specs.declared.Ground.TheVariants.{OutsideTree, UnlikeNodes, NotRising, AncestryDiffers, LastNotAncestor, BorderUnpaired}
 use Rattle.answer.specs.declared.Place.TheVariants as place
-use Rattle.answer.specs.declared.Answer.TheVariants.{Accepted}
+use Rattle.answer.specs.Answer.{Accepted}
 use Rattle.answer.proofs.Given.{not_given}
 use Rattle.answer.specs.Tells.{Tells}
 use Rattle.answer.proofs.Tells.{tells_and, tells_not}

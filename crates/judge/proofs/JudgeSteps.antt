@@ -7,9 +7,14 @@ use native.Mathlib.Omega.{arith}
 use lib.Dec.{eqb, leb}
 use lib.ListN.{length, get_or}
 use borrow.Author.Tests.{le-leb, lt-leb, le-ltb, lt-ltb, ne_eqb}
+use Rattle.std.specs.Prelude.{Result, Ok, Err}
+use Rattle.answer.specs.Refusal.{refusal_at, result_of}
+use Rattle.answer.specs.declared.Refusal.{Refusal}
+use Rattle.answer.specs.declared.Ground.{Ground}
+use Rattle.answer.specs.declared.Place.{Place}
+use Rattle.answer.specs.Answer.{Answer, Accepted, Refused}
 use Rattle.answer.specs.declared.Ground.TheVariants.{OutsideTree, UnlikeNodes, NotRising, AncestryDiffers, LastNotAncestor, BorderUnpaired}
 use Rattle.answer.specs.declared.Place.TheVariants as place
-use Rattle.answer.specs.declared.Answer.TheVariants.{Accepted, Refused}
 use Rattle.tree.specs.Nested.{leaf, Nested}
 use Rattle.seed.specs.Seed.{qs, ts, last_or, last_node}
 use Rattle.seed.specs.Tests.{some, node_in, nodes_in, same_kind, same_kinds, rises, alike, rooted, spans, children, paired, bordered}
@@ -102,6 +107,13 @@ module _ (l xs : List ℕ) (x : ℕ) where
     pub paired_by : spans l xs x ≡ true → (leaf l x ≡ x → ⊥) → paired l xs x ≡ children (spans l xs) l (leaf l x) x x
     unfolding paired
     paired_by f g = rw (e, f, ne_eqb (leaf l x) x g)
+
+-- An answer as a result.
+pub said_err : {a : Answer} {g : Ground} {p : Place} {e : Refusal} → e ≡ refusal_at g p → a ≡ Refused g p → ◌≡◌ {A = Result (Unit {0}) Refusal} (Err e) (result_of a tt)
+said_err e f = rw (e, f)
+
+pub said_ok : {a : Answer} → a ≡ Accepted → ◌≡◌ {A = Result (Unit {0}) Refusal} (Ok tt) (result_of a tt)
+said_ok f = rw f
 
 -- The judge's ways out.
 module _ (Q T : List ℕ) (s : List Pair) (n : ℕ) where

@@ -7,6 +7,7 @@ use Prim.Native.Nat.{ℕ, ◌+◌, ◌-◌, ◌≤◌, ◌<◌}
 use native.Mathlib.Omega.{arith}
 use lib.ListN.{length, get_or, set}
 use lib.Seq.{get_or-set_same, get_or-set_other}
+use Rattle.std.specs.Prelude.{Some}
 use Rattle.tree.specs.Nested.{leaf, In, Nested}
 use Rattle.tree.proofs.Leaves.{lt_or_le}
 use Rattle.seed.specs.Tests.{children}
@@ -134,7 +135,7 @@ module _ {f : ℕ → Bool} {l tops : List ℕ} {count x : ℕ} (tree : Nested l
               | inr u ↦ omega (arith, w.2, d.after w.0 u w.1)
             ]
 
-  pub down_end : {left end : ℕ} → Down left end → end ≤ leaf l x → Joined f l tops count x left
+  pub down_end : {left end : ℕ} → Down left end → end ≤ leaf l x → Joined f l tops count x (Some left)
   down_end d h =
       whole d.fewer
       (record {

@@ -1,10 +1,8 @@
 -- What is answered of a list of pairs that is to be a seed (document 01, grounds 15 to 19; document 02, c, ground 25), computed.
 use Rattle.std.specs.Prelude.{not, ◌&&◌, List, ℕ}
-use Rattle.answer.specs.Answer.{given}
+use Rattle.answer.specs.Answer.{given, Answer, Accepted}
 use Rattle.answer.specs.declared.Ground.TheVariants.{OutsideTree, UnlikeNodes, NotRising, AncestryDiffers, LastNotAncestor, BorderUnpaired}
 use Rattle.answer.specs.declared.Place.TheVariants.{Seed}
-use Rattle.answer.specs.declared.Answer.{Answer}
-use Rattle.answer.specs.declared.Answer.TheVariants.{Accepted}
 use Rattle.tree.specs.Reading.{leaves_of, node_kinds_of}
 use Rattle.tree.specs.declared.Tree.{Tree}
 use Rattle.seed.specs.Seed.{qs, ts}

@@ -8,15 +8,14 @@ use lib.Dec.{leb}
 use denote.Ref.{Bor}
 use Rattle.answer.specs.declared.Ground.TheVariants.{OutsideTree}
 use Rattle.answer.specs.declared.Place.TheVariants.{Nothing}
-use Rattle.answer.specs.declared.Answer.TheVariants.{Accepted, Refused}
+use Rattle.answer.specs.Answer.{Accepted, Refused}
 use Rattle.answer.proofs.Denied.{denies}
 use Rattle.character.specs.Character.{meaning_of}
 use Rattle.tree.specs.Run.{Run, spell}
 use Rattle.tree.specs.Reading.{Reading, bad_length, reading}
 use Rattle.tree.specs.Reading.Reading.{text_accepted}
-use Rattle.stretch.specs.Stretch.{Stretch, stretch_in, located_by, located, check_of, spelled, part, part_of, HandsBack}
+use Rattle.stretch.specs.Stretch.{Stretch, stretch_in, Located, located_by, located, check_of, spelled, part, part_of, HandsBack}
 use Rattle.stretch.specs.Stretch.Found.{at, nowhere}
-use Rattle.stretch.specs.declared.search.Located.{Located}
 use Rattle.stretch.proofs.Stretches.{stretches}
 use Rattle.stretch.proofs.Searches.{part_none}
 

@@ -3,13 +3,11 @@ use Rattle.std.specs.Prelude.{◌≡◌, cond, ℕ, zero, suc, ◌+◌, ◌-◌,
 use Rattle.std.specs.Borrow.{Bor}
 use Rattle.answer.specs.declared.Ground.TheVariants.{OutsideTree}
 use Rattle.answer.specs.declared.Place.TheVariants.{Nothing}
-use Rattle.answer.specs.declared.Answer.{Answer}
-use Rattle.answer.specs.declared.Answer.TheVariants.{Accepted, Refused}
+use Rattle.answer.specs.Answer.{Answer, Accepted, Refused}
 use Rattle.tree.specs.Run.{Run, spell, size, join}
 use Rattle.tree.specs.Run.Run.{end, dot, pair}
 use Rattle.tree.specs.Reading.{Reading, reading, text_answer}
 use Rattle.tree.specs.Reading.Reading.{text_accepted, text_refused}
-use Rattle.stretch.specs.declared.search.Located.{Located}
 
 -- The items of y are neighbours in the run r, or in the run inside a pair of it. Their first node is a, counted from r's first node, and
 -- k bytes of r's text stand before them.
@@ -69,6 +67,12 @@ nodes_from (pair o i c r) a n =
 
 unfoldable pub stretch_in : Run → ℕ → ℕ → Found
 stretch_in r a b = cond (leb a b) (nodes_from r a (b - a + 1)) nowhere
+
+-- What is answered of a run of nodes, and the bytes that spell it: none where it is refused.
+pub record Located : Type 0 where
+  pub answer : Answer
+  pub from : ℕ
+  pub to : ℕ
 
 -- What is answered of nodes that are looked for, and the bytes that spell them: none where they are no stretch.
 abbrev pub located_by : Found → Located

@@ -1,13 +1,14 @@
-// Finding the bytes of a text that spell a run of nodes.
+//! Finding the bytes of a text that spell a run of nodes.
 ghost use Rattle.std.specs.Prelude.{◌≡◌, ◌≤◌, ◌<◌, length};
-ghost use Rattle.stretch.specs.inner.Scan.{ends_of, own_bytes, counted, unmoved, scan_to, LocatedRight};
-ghost use Rattle.stretch.specs.Stretch.{Found, located_by, located_in};
+ghost use Rattle.answer.specs.Refusal.{result_of};
+ghost use Rattle.stretch.specs.inner.Scan.{ends_of, own_bytes, counted, unmoved, scan_to, ends_in, LocatedRight};
+ghost use Rattle.stretch.specs.Stretch.{located_in};
 
-use answer::{Answer, Ground, Place, refused};
+use answer::{Ground, Place, Refusal};
 use character::{Role, meaning_of, role_in};
 use tree::read;
 
-// How far a scan has come: the byte it stands at, the nodes that end before it, and the bytes of those from node a on.
+/// How far a scan has come: the byte it stands at, the nodes that end before it, and the bytes of those from node a on.
 #[derive(Clone, Copy)]
 pub struct Scan {
     pub at: usize,
@@ -15,15 +16,14 @@ pub struct Scan {
     pub width: usize,
 }
 
-// What is answered of a run of nodes, and the bytes that spell it: none where it is refused.
+/// The bytes that spell a run of nodes: from one on, and up to another.
 #[derive(Clone, Copy)]
-pub struct Located {
-    pub answer: Answer,
+pub struct Ends {
     pub from: usize,
     pub to: usize,
 }
 
-// How many nodes a byte ends.
+/// How many nodes a byte ends.
 fn ends_of(role: Role) -> usize
     ensures { result ≡ ends_of role }
 {
@@ -35,7 +35,7 @@ fn ends_of(role: Role) -> usize
     }
 }
 
-// How many bytes the node has that a byte ends.
+/// How many bytes the node has that a byte ends.
 fn bytes_of(role: Role) -> usize
     ensures { result ≡ own_bytes role }
 {
@@ -47,7 +47,7 @@ fn bytes_of(role: Role) -> usize
     }
 }
 
-// One byte passed: a node that ends there counts, and so do its bytes if its number is a or more.
+/// One byte passed: a node that ends there counts, and so do its bytes if its number is a or more.
 fn count_byte(c: Scan, a: usize, byte: u8) -> Scan
     requires { (c.at < 4096) × (c.nodes < 4096) × (c.width < 4096) }
     ensures { result ≡ counted a byte c }
@@ -68,7 +68,7 @@ fn count_byte(c: Scan, a: usize, byte: u8) -> Scan
     }
 }
 
-// Passes the bytes up to the one that ends node b.
+/// Passes the bytes up to the one that ends node b.
 fn scan_to(text: &[u8], a: usize, b: usize) -> Scan
     requires { length text.now ≤ 255 }
     ensures { result ≡ scan_to a b unmoved text.now }
@@ -89,65 +89,35 @@ fn scan_to(text: &[u8], a: usize, b: usize) -> Scan
     c
 }
 
-fn nowhere() -> Located
-    ensures { result ≡ located_by Found.nowhere }
-{
-    Located {
-        answer: refused(Ground::OutsideTree, Place::Nothing),
-        from: 0,
-        to: 0,
-    }
-}
-
-// The bytes of an accepted text that spell the nodes a to b: those before the end of node b that its nodes from a on have, if just these
-// nodes are read from them.
-fn search(text: &[u8], a: usize, b: usize) -> Located
+/// The bytes of an accepted text that spell the nodes a to b: those before the end of node b that its nodes from a on have, if just these nodes are
+/// read from them.
+fn search(text: &[u8], a: usize, b: usize) -> Option<Ends>
     requires { length text.now ≤ 255 }
     ensures { LocatedRight text.now a b result }
 {
     if b < a {
-        return nowhere();
+        return None;
     }
     let c = scan_to(text, a, b);
     let to = c.at;
     let width = c.width;
-    if c.nodes <= b {
-        return nowhere();
-    }
-    if to < width {
-        return nowhere();
+    if c.nodes <= b || to < width {
+        return None;
     }
     let from = to - width;
-    let part = &text[from..to];
-    let r = read(part);
-    let answer = r.answer;
-    match answer {
-        Answer::Accepted => {
-            let t = r.tree;
-            if t.n == b - a + 2 {
-                return Located {
-                    answer: Answer::Accepted,
-                    from,
-                    to,
-                };
-            }
-            nowhere()
-        }
-        _ => nowhere(),
+    let Ok(tree) = read(&text[from..to]) else {
+        return None;
+    };
+    if tree.node_count() != b - a + 2 {
+        return None;
     }
+    Some(Ends { from, to })
 }
 
-pub fn locate(text: &[u8], a: usize, b: usize) -> Located
-    ensures { result ≡ located_in text.now a b }
+/// The bytes of a text that spell the nodes a to b, or the text's refusal, or that they are no stretch.
+pub fn locate(text: &[u8], a: usize, b: usize) -> Result<Ends, Refusal>
+    ensures { result ≡ result_of (located_in text.now a b).answer (ends_in (located_in text.now a b)) }
 {
-    let r = read(text);
-    let answer = r.answer;
-    match answer {
-        Answer::Accepted => search(text, a, b),
-        _ => Located {
-            answer,
-            from: 0,
-            to: 0,
-        },
-    }
+    read(text)?;
+    search(text, a, b).ok_or(Ground::OutsideTree.at(Place::Nothing))
 }

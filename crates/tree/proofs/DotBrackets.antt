@@ -11,7 +11,7 @@ use lib.Seq.{drop-cons}
 use lib.Dec.{eqb, ltb}
 use borrow.Author.Tests.{eqb-true}
 use Rattle.answer.specs.declared.Ground.TheVariants.{UnknownByte}
-use Rattle.answer.specs.declared.Answer.TheVariants.{Accepted}
+use Rattle.std.specs.Prelude.{Ok}
 use Rattle.answer.proofs.Tells.{both_true}
 use Rattle.character.specs.Character.{meaning_of, role_of, kind_of}
 use Rattle.character.proofs.Bytes.{by_byte}
@@ -241,7 +241,7 @@ form_stopped s =
     by q x b k = cond b (text_accepted q) (text_refused (ground_at (role_of (get_or x k 0))) k)
 
     go : (b : Bool) (k : ℕ) → read_of (by (in_dots (first (runs s))) (dot_bracket_of s) b k) ≡ read_of (by (first (runs s)) s b k)
-    go true k = ap (λ (t : Tree). record { answer = Accepted; tree = t }) (tree_kept (first (runs s)))
+    go true k = ap (λ (t : Tree). Ok t) (tree_kept (first (runs s)))
     go false k = ap (λ (m : Role). read_of (text_refused (ground_at m) k)) (form_keeps_role s k)
 
 pub form_blind : (s : List ℕ) → read_of (blind_reading (dot_bracket_of s)) ≡ read_of (blind_reading s)

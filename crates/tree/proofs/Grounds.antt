@@ -7,12 +7,10 @@ use native.Mathlib.Omega.{arith}
 use mathlib.Core.List.{List, [], ◌∷◌, ◌++◌, append-nil}
 use lib.ListN.{length, get_or, length-append}
 use borrow.Author.Tests.{eq-eqb, ne_eqb, lt-ltb, le-ltb}
-use Rattle.answer.specs.Answer.{Said}
+use Rattle.answer.specs.Answer.{Said, Answer, Accepted, Refused}
 use Rattle.answer.specs.Grounds.{GivenIf, First, Never, GivenFirst, ◌then◌, Decides}
 use Rattle.answer.specs.declared.Ground.TheVariants.{TextLength, UnknownByte, ClosesNothing, NeverClosed, ClosesOtherKind}
 use Rattle.answer.specs.declared.Place.TheVariants.{ByteInQ}
-use Rattle.answer.specs.declared.Answer.{Answer}
-use Rattle.answer.specs.declared.Answer.TheVariants.{Accepted, Refused}
 use Rattle.answer.proofs.Denied.{clash}
 use Rattle.answer.proofs.Grounds.{ground, ground_first, ground_never, stops, goes_on}
 use Rattle.tree.specs.Run.{Run, spell}

@@ -11,17 +11,18 @@ use lib.Seq.{sets, sets-eq}
 use borrow.Author.Tests.{eq-eqb, ne_eqb, lt-ltb, le-ltb}
 use Rattle.answer.specs.declared.Ground.{Ground}
 use Rattle.answer.specs.declared.Ground.TheVariants.{TextLength, UnknownByte, ClosesNothing, NeverClosed}
-use Rattle.answer.specs.declared.Answer.TheVariants.{Accepted}
+use Rattle.std.specs.Prelude.{Result, Ok}
 use Rattle.tree.specs.Run.{Run, spell, size, lefts_from, lefts}
 use Rattle.character.specs.Character.{meaning_of, role_of}
-use Rattle.tree.specs.Reading.{first, runs, first_refused, bad_length, ground_at, stopped, blind_reading, with_kinds, reading, read_of, tree_of}
+use Rattle.tree.specs.Reading.{first, runs, first_refused, bad_length, ground_at, stopped, blind_reading, with_kinds, reading, read_of, tree_of, IsTree}
 use Rattle.tree.specs.inner.Building.{Ready, OpensAt, RunRead, Known}
 use Rattle.tree.specs.inner.NodeKinds.{ShortForm, kinds_read}
 use Rattle.tree.specs.Reading.Reading.{text_accepted, text_refused}
 use Rattle.character.specs.declared.Role.{Role}
 use Rattle.character.specs.declared.Role.TheVariants.{Unpaired, Opening, Closing, Refused}
 use Rattle.tree.specs.declared.run.ReadTo.{ReadTo}
-use Rattle.tree.specs.declared.TreeRead.{TreeRead}
+use Rattle.tree.specs.declared.Tree.{Tree}
+use Rattle.tree.specs.declared.RefusedText.{RefusedText}
 use Rattle.answer.proofs.Denied.{clash}
 use Rattle.tree.proofs.Roles.{tag}
 use Rattle.tree.proofs.Leaves.{length_lefts}
@@ -61,8 +62,8 @@ ground_other Refused h = refl
 
 read_tree :
     (n n' : ℕ) (l l' k k' : List ℕ) → n ≡ n' → l ≡ l' → k ≡ k'
-    → ◌≡◌ {A = TreeRead} (record { answer = Accepted; tree = record { n = n + 1; left = l; kinds = k } }) (record { answer = Accepted; tree = record { n = n' + 1; left = l'; kinds = k' } })
-read_tree n n' l l' k k' p q e = λ j. record { answer = Accepted; tree = record { n = p j + 1; left = q j; kinds = e j } }
+    → ◌≡◌ {A = Tree} (record { n = n + 1; left = l; kinds = k }) (record { n = n' + 1; left = l'; kinds = k' })
+read_tree n n' l l' k k' p q e = λ j. record { n = p j + 1; left = q j; kinds = e j }
 
 module _ (s : List ℕ) where
   pub read_length : bad_length (length s) ≡ true → reading s ≡ text_refused TextLength 0
@@ -113,12 +114,20 @@ module _ (s : List ℕ) where
           whole [] f = f ∙ append-nil (spell (first (runs s)))
           whole (c ∷ t) f = absurd (omega (arith, at_stop, ap length f, length-append (spell (first (runs s))) (c ∷ t)))
 
-      pub read_all : x.at ≡ length s → (kinds : List ℕ) → kinds ≡ kinds_read s → ◌≡◌ {A = TreeRead} (record { answer = Accepted; tree = record { n = x.n + 1; left = left; kinds = kinds } }) (read_of (blind_reading s))
+      -- A text that is read to its end gives the tree of its run.
+      pub read_is : x.at ≡ length s → (kinds : List ℕ) → kinds ≡ kinds_read s → ◌≡◌ {A = Tree} (record { n = x.n + 1; left = left; kinds = kinds }) (tree_of (first (runs s)))
+      read_is e kinds told =
+          let r : Run = first (runs s) in
+          read_tree x.n (size r) left (lefts r ++ zeros (255 - size r)) kinds (tree_of r).kinds (is.counted ∙ zero-add (size r)) (is.written (end_opens s x.at e) ∙ padded 255 r few) (told ∙ ap kinds_read (spelled e) ∙ kinds_spelled r (first_meant s))
+
+      pub read_whole : x.at ≡ length s → (kinds : List ℕ) → kinds ≡ kinds_read s → IsTree (record { n = x.n + 1; left = left; kinds = kinds })
+      read_whole e kinds told = record { run = first (runs s); few = few; is = read_is e kinds told }
+
+      pub read_all : x.at ≡ length s → (kinds : List ℕ) → kinds ≡ kinds_read s → ◌≡◌ {A = Result Tree RefusedText} (Ok (record { n = x.n + 1; left = left; kinds = kinds })) (read_of (blind_reading s))
       read_all e kinds told =
           let r : Run = first (runs s) in
           let st : stopped s r ≡ text_accepted r = rw (eq-eqb (length (spell r)) (length s) (sym at_stop ∙ e)) in
-          read_tree x.n (size r) left (lefts r ++ zeros (255 - size r)) kinds (tree_of r).kinds (is.counted ∙ zero-add (size r)) (is.written (end_opens s x.at e) ∙ padded 255 r few) (told ∙ ap kinds_read (spelled e) ∙ kinds_spelled r (first_meant s))
-          ∙ sym (ap read_of (blind_known known.known ∙ st))
+          ap (λ (t : Tree). Ok t) (read_is e kinds told) ∙ sym (ap read_of (blind_known known.known ∙ st))
 
       module _ (ne : x.at ≡ length s → ⊥) (m : Role) (means : m ≡ role_of (get_or s x.at 0)) where
         at_other : blind_reading s ≡ text_refused (ground_at m) x.at

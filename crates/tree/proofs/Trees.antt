@@ -10,10 +10,11 @@ use Rattle.tree.specs.Run.Run.{end, dot, pair}
 use Rattle.tree.specs.Nested.{Nested}
 use Rattle.tree.specs.Node.{nodes, number}
 use Rattle.tree.specs.Node.Node.{root}
-use Rattle.tree.specs.Reading.{Reading, reading, read_of, bad_length, tree_of, single, leaves_of, IsTree}
+use Rattle.tree.specs.Reading.{Reading, reading, read_of, tree_in, bad_length, tree_of, single, leaves_of, IsTree}
 use Rattle.tree.specs.Reading.Reading.{text_accepted, text_refused}
 use Rattle.tree.specs.declared.Tree.{Tree}
-use Rattle.tree.specs.declared.TreeRead.{TreeRead}
+use Rattle.tree.specs.declared.RefusedText.{RefusedText}
+use Rattle.std.specs.Prelude.{Result}
 use Rattle.tree.proofs.Lengths.{length_few}
 use Rattle.tree.proofs.Leaves.{nested, length_all}
 use Rattle.tree.proofs.Splits.{size_spell}
@@ -40,11 +41,15 @@ spells_none (pair o i c r) h = absurd (omega arith)
 pub one_node : (s : List ℕ) (r : Run) → reading s ≡ text_accepted r → (tree_of r).n ≡ 1 → s ≡ []
 one_node s r e h = (accepted_spell s r e).0 ∙ spells_none r (omega arith)
 
+-- The tree of "." is one that is read.
+pub single_read : IsTree (tree_of single)
+single_read = record { run = single; few = omega arith; is = refl }
+
 -- Reading hands over a tree whatever it answers.
-pub read_tree : (s : List ℕ) (x : TreeRead) → x ≡ read_of (reading s) → IsTree x.tree
-read_tree s x e = subst (λ (y : TreeRead). IsTree y.tree) (sym e) (go (reading s) refl)
+pub read_tree : (s : List ℕ) (x : Result Tree RefusedText) → x ≡ read_of (reading s) → IsTree (tree_in x)
+read_tree s x e = subst (λ (y : Result Tree RefusedText). IsTree (tree_in y)) (sym e) (go (reading s) refl)
   where
-    go : (y : Reading) → reading s ≡ y → IsTree (read_of y).tree
+    go : (y : Reading) → reading s ≡ y → IsTree (tree_in (read_of y))
     go (text_accepted r) f = record { run = r; few = omega (arith, accepted_nodes s r f); is = refl }
     go (text_refused g k) f = record { run = single; few = omega arith; is = refl }
 

@@ -1,24 +1,23 @@
 -- A text written in dot-bracket form, byte by byte, and what is read of it.
 use mathlib.Core.Path.{◌≡◌, refl, sym, ap, ap₂, subst, ◌∙◌}
-use mathlib.Core.Bool.{true, false, ◌&&◌, false≢true}
-use Prim.Native.Nat.{ℕ, ◌+◌, ◌-◌, ◌≤◌, ◌<◌}
+use mathlib.Core.Bool.{true, false}
+use Prim.Native.Nat.{ℕ, ◌+◌, ◌≤◌, ◌<◌}
 use native.Mathlib.Omega.{arith}
-use native.Mathlib.Nat.{sub-zero}
 use native.Mathlib.Numerals.{add-one}
 use mathlib.Core.List.{List, [], ◌∷◌, ◌++◌, map-append}
-use lib.ListN.{length, get_or, take, drop, set, length-set}
+use lib.ListN.{length, get_or, take, set, length-set}
 use lib.Seq.{take_all, take-suc, take-suc-set}
-use lib.Dec.{ltb}
-use borrow.Author.Tests.{le-ltb}
+use borrow.Author.Tests.{le-ltb, lt-ltb}
 use Rattle.answer.specs.declared.Ground.TheVariants.{UnknownByte, ClosesOtherKind}
-use Rattle.answer.specs.Answer.{is_accepted}
+use Rattle.std.specs.Prelude.{Result, Ok, Err}
 use Rattle.character.specs.Character.{role_of}
 use Rattle.character.specs.declared.Role.{Role}
 use Rattle.tree.specs.Reading.{form_byte, dot_bracket_of, Reading, read_of, first_refused, blind_reading, first_other_kind, with_kinds}
 use Rattle.tree.specs.Reading.Reading.{text_accepted, text_refused}
 use Rattle.tree.specs.inner.DotBracket.{SameRoles, in_dot_bracket}
 use Rattle.tree.specs.inner.Building.{Known, Formed}
-use Rattle.tree.specs.declared.TreeRead.{TreeRead}
+use Rattle.tree.specs.declared.Tree.{Tree}
+use Rattle.tree.specs.declared.RefusedText.{RefusedText}
 use Rattle.tree.proofs.DotBrackets.{dots_form, dots_known, dots_kinds, form_in, form_length, form_keeps_role, form_other, form_blind}
 use Rattle.tree.proofs.Texts.{blind_unknown}
 
@@ -74,10 +73,10 @@ module _ {s form : List ℕ} (h : Formed s form) where
 -- What is read of a text in its dot-bracket form, in each case of the code. The form is a part of an array.
 module _ (s array : List ℕ) (short : length s ≤ 255) (whole : take (length s) array ≡ dot_bracket_of s) where
   abbrev Form : List ℕ
-  Form = take (length s - 0) (drop 0 array)
+  Form = take (length s) array
 
   is : Form ≡ dot_bracket_of s
-  is = ap (λ (k : ℕ). take k array) (sub-zero (length s)) ∙ whole
+  is = whole
 
   pub formed : Formed s Form
   formed = record { short = short; is = is }
@@ -88,22 +87,29 @@ module _ (s array : List ℕ) (short : length s ≤ 255) (whole : take (length s
   pub written_known : in_dot_bracket Form ≡ true → Known Form
   written_known h = record { form = dots_form Form h; short = omega (arith, ap length is, form_length s); known = omega (arith, dots_known Form h) }
 
-  module _ (x : TreeRead) (read : x ≡ read_of (blind_reading Form)) where
+  module _ (x : Result Tree RefusedText) (read : x ≡ read_of (blind_reading Form)) where
     is_blind : x ≡ read_of (blind_reading s)
     is_blind = read ∙ ap (λ (l : List ℕ). read_of (blind_reading l)) is ∙ form_blind s
 
     -- A refusal stays, and an acceptance waits for the kinds.
-    module _ (o : ℕ) (other : o ≡ first_other_kind s []) where
-      pub written_other : (is_accepted x.answer && ltb o (length s)) ≡ true → read_of (text_refused ClosesOtherKind o) ≡ read_of (with_kinds s (blind_reading s))
-      written_other h = go (blind_reading s) (ap (λ (t : TreeRead). t.answer) is_blind)
-        where
-          go : (y : Reading) → x.answer ≡ (read_of y).answer → read_of (text_refused ClosesOtherKind o) ≡ read_of (with_kinds s y)
-          go (text_accepted r) e = rw (← other, rw e at h)
-          go (text_refused g k) e = absurd (false≢true (rw e at h))
+    pub written_stays : (e : RefusedText) → x ≡ Err e → Err e ≡ read_of (with_kinds s (blind_reading s))
+    written_stays e f = go (blind_reading s) (sym f ∙ is_blind)
+      where
+        go : (y : Reading) → Err e ≡ read_of y → Err e ≡ read_of (with_kinds s y)
+        go (text_accepted r) h = cc
+        go (text_refused g k) h = h
 
-      pub written_read : (is_accepted x.answer && ltb o (length s)) ≡ false → x ≡ read_of (with_kinds s (blind_reading s))
-      written_read h = go (blind_reading s) is_blind
+    module _ (o : ℕ) (other : o ≡ first_other_kind s []) (t : Tree) (f : x ≡ Ok t) where
+      pub written_other : o < length s → read_of (text_refused ClosesOtherKind o) ≡ read_of (with_kinds s (blind_reading s))
+      written_other h = go (blind_reading s) (sym f ∙ is_blind)
         where
-          go : (y : Reading) → x ≡ read_of y → x ≡ read_of (with_kinds s y)
-          go (text_accepted r) e = rw (← other, rw (ap (λ (t : TreeRead). t.answer) e) at h) e
-          go (text_refused g k) e = e
+          go : (y : Reading) → Ok t ≡ read_of y → read_of (text_refused ClosesOtherKind o) ≡ read_of (with_kinds s y)
+          go (text_accepted r) e = rw (← other, lt-ltb o (length s) h)
+          go (text_refused g k) e = cc
+
+      pub written_read : length s ≤ o → Ok t ≡ read_of (with_kinds s (blind_reading s))
+      written_read h = go (blind_reading s) (sym f ∙ is_blind)
+        where
+          go : (y : Reading) → Ok t ≡ read_of y → Ok t ≡ read_of (with_kinds s y)
+          go (text_accepted r) e = rw (← other, le-ltb o (length s) h) e
+          go (text_refused g k) e = cc

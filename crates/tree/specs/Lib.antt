@@ -3,7 +3,9 @@ pub mod Run
 pub mod Node
 pub mod Nested
 pub mod NodeKind
+pub mod Fields
 pub mod Reading
+pub mod Whole
 pub mod Grounds
 -- What only the contracts of inner functions cite.
 pub mod inner

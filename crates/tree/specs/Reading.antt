@@ -1,10 +1,10 @@
 -- What reading a text must answer (document 01, "Structures as trees", grounds 1 to 4; document 02, b, ground 24).
-use Rattle.std.specs.Prelude.{◌≡◌, Bool, true, cond, ℕ, suc, ◌+◌, ◌-◌, ◌≤◌, List, [], ◌∷◌, ◌++◌, map, length, get_or, set, take, replicate, eqb, ltb}
+use Rattle.std.specs.Prelude.{◌≡◌, Bool, true, cond, ℕ, suc, ◌+◌, ◌-◌, ◌≤◌, List, [], ◌∷◌, ◌++◌, map, length, get_or, set, take, replicate, eqb, ltb, Result, Ok, Err}
 use Rattle.answer.specs.declared.Ground.{Ground}
 use Rattle.answer.specs.declared.Ground.TheVariants.{TextLength, UnknownByte, ClosesNothing, NeverClosed, ClosesOtherKind}
 use Rattle.answer.specs.declared.Place.TheVariants.{ByteInQ}
-use Rattle.answer.specs.declared.Answer.{Answer}
-use Rattle.answer.specs.declared.Answer.TheVariants as answer
+use Rattle.answer.specs.Answer.{Answer}
+use Rattle.answer.specs.Answer as answer
 use Rattle.character.specs.Character.{role_of, kind_of}
 use Rattle.character.specs.declared.Role.{Role}
 use Rattle.character.specs.declared.Role.TheVariants.{Unpaired, Opening, Closing, Refused}
@@ -13,7 +13,8 @@ use Rattle.tree.specs.Run.Run.{end, dot, pair}
 use Rattle.tree.specs.NodeKind.{kind_number, item_kinds}
 use Rattle.tree.specs.NodeKind.NodeKind.{added_root}
 use Rattle.tree.specs.declared.Tree.{Tree}
-use Rattle.tree.specs.declared.TreeRead.{TreeRead}
+use Rattle.answer.specs.Refusal.{refusal_at}
+use Rattle.tree.specs.declared.RefusedText.{RefusedText}
 
 -- The bytes of a run mean what they stand for in it, whatever kind its brackets are of.
 abbrev pub Meant : Run → Type 0
@@ -53,13 +54,23 @@ tree_of r = record { n = size r + 1; left = lefts r ++ replicate (255 - size r) 
 abbrev pub single : Run
 single = dot 46 end
 
-abbrev pub read_of : Reading → TreeRead
-read_of (text_accepted r) = record { answer = text_answer (text_accepted r); tree = tree_of r }
-read_of (text_refused g k) = record { answer = text_answer (text_refused g k); tree = tree_of single }
+-- What reading hands over: the tree, or the refusal with the tree of ".".
+abbrev pub read_of : Reading → Result Tree RefusedText
+read_of (text_accepted r) = Ok (tree_of r)
+read_of (text_refused g k) = Err (record { refusal = refusal_at g (ByteInQ k); tree = tree_of single })
+
+-- The tree that is handed over: that of the text, or that of "." beside a refusal.
+abbrev pub tree_in : Result Tree RefusedText → Tree
+tree_in (Ok t) = t
+tree_in (Err refused) = refused.tree
 
 -- The leftmost leaves of a tree's nodes.
 abbrev pub leaves_of : Tree → List ℕ
 leaves_of t = take t.n t.left
+
+-- The kinds of its nodes below the added root, by number.
+abbrev pub kinds_below : Tree → List ℕ
+kinds_below t = take (t.n - 1) t.kinds
 
 -- The kinds of a tree's nodes, by number, that of the added root among them, which is the last; and the kind of node i.
 abbrev pub node_kinds_of : Tree → List ℕ

@@ -1,4 +1,4 @@
-// A text read into a tree.
+//! A text read into a tree.
 #![tactic(auto)]
 
 mod compare;
@@ -8,32 +8,80 @@ mod node_kinds;
 mod run;
 mod unknown;
 
-ghost use Rattle.std.specs.Prelude.{◌≡◌, ◌&&◌, ◌≤◌, length, ltb};
-ghost use Rattle.answer.specs.Answer.{is_accepted};
-ghost use Rattle.tree.specs.Reading.{Reading, bad_length, blind_reading, with_kinds, reading, read_of, tree_of, single, node_kinds_of, IsTree};
+ghost use Rattle.std.specs.Prelude.{◌≡◌, ◌≤◌, length, Err};
+ghost use Rattle.tree.specs.Reading.{Reading, bad_length, blind_reading, with_kinds, reading, read_of, tree_of, single, leaves_of, kinds_below, node_kinds_of, IsTree};
 ghost use Rattle.tree.specs.inner.Building.{Known};
 
-use answer::{Answer, Ground, Place};
+use answer::{Ground, Place, Refusal};
 use character::Role;
 use dot_bracket::{dot_bracket, form_role, in_dot_bracket};
 use kinds::first_other_kind;
 use node_kinds::node_kinds;
 use run::read_run;
+use std::marker::Model;
 use unknown::first_refused;
 
-// The nodes of a structure, numbered from 0 in postfix order: how many, the leftmost leaf of each, and the kind of each below the added root, 0 an
-// unpaired base and 1 a base pair. The added root is the last.
+/// The nodes of a structure, numbered from 0 in postfix order: how many, the leftmost leaf of each, and the kind of each below the added root, 0 an
+/// unpaired base and 1 a base pair. The added root is the last.
 #[derive(Clone, Copy)]
 pub struct Tree {
-    pub n: usize,
-    pub left: [u8; 256],
-    pub kinds: [u8; 256],
+    n: usize,
+    left: [u8; 256],
+    kinds: [u8; 256],
 }
 
+impl Model for Tree {
+    ghost use Rattle.tree.specs.Fields.{Fields};
+
+    ghost Value = { Fields };
+
+    ghost use Rattle.tree.specs.Whole.{fields_of, inside_of, WasRead};
+
+    ghost view = { fields_of };
+
+    ghost invariant = { WasRead };
+
+    ghost inverse = { inside_of };
+}
+
+impl Tree {
+    /// How many nodes there are, the added root among them.
+    pub fn node_count(&self) -> usize
+        ensures count { result ≡ self.now.n }
+        ensures read { IsTree self.now }
+    {
+        self.n
+    }
+
+    /// The leftmost leaf of each node, by its number.
+    pub fn leaves(&self) -> &[u8]
+        ensures leaves { result.now ≡ leaves_of self.now }
+        ensures read { IsTree self.now }
+    {
+        &self.left[..self.n]
+    }
+
+    /// The kind of each node below the added root, by its number: 0 an unpaired base and 1 a base pair.
+    pub fn kinds(&self) -> &[u8]
+        ensures { result.now ≡ kinds_below self.now }
+    {
+        &self.kinds[..self.n - 1]
+    }
+}
+
+/// Why a text was refused, and the tree of ".", which is handed over beside the refusal.
 #[derive(Clone, Copy)]
-pub struct TreeRead {
-    pub answer: Answer,
+pub struct RefusedText {
+    pub refusal: Refusal,
     pub tree: Tree,
+}
+
+impl From<RefusedText> for Refusal {
+    ghost from_gives = { λ refused refusal. refusal ≡ refused.refusal };
+
+    fn from(refused: RefusedText) -> Refusal {
+        refused.refusal
+    }
 }
 
 #[tactic(auto, unfolding(crate::specs::Reading::bad_length))]
@@ -43,7 +91,8 @@ fn bad_length(len: usize) -> bool
     255 < len
 }
 
-// The tree of ".", which stands beside a refusal.
+/// The tree of ".", which stands beside a refusal.
+#[tactic(auto, using(crate::proofs::Trees::single_read))]
 pub fn single_tree() -> Tree
     ensures { result ≡ tree_of single }
 {
@@ -54,9 +103,8 @@ pub fn single_tree() -> Tree
     }
 }
 
-// The kinds of all nodes of a tree, with 2 for the added root.
+/// The kinds of all nodes of a tree, with 2 for the added root.
 pub fn kinds_with_root(tree: Tree) -> [u8; 256]
-    requires { IsTree tree }
     ensures { result ≡ node_kinds_of tree }
 {
     let mut kinds = tree.kinds;
@@ -64,17 +112,17 @@ pub fn kinds_with_root(tree: Tree) -> [u8; 256]
     kinds
 }
 
-fn refused(reason: Ground, at: usize) -> TreeRead
-    ensures { result ≡ read_of (Reading.text_refused reason at) }
+fn refused(ground: Ground, byte: usize) -> RefusedText
+    ensures { Err result ≡ read_of (Reading.text_refused ground byte) }
 {
-    TreeRead {
-        answer: answer::refused(reason, Place::ByteInQ(at)),
+    RefusedText {
+        refusal: ground.at(Place::ByteInQ(byte)),
         tree: single_tree(),
     }
 }
 
-// The tree of a text in dot-bracket form without a refused byte, or grounds 3 and 4.
-fn read_known(text: &[u8]) -> TreeRead
+/// The tree of a text in dot-bracket form without a refused byte, or grounds 3 and 4.
+fn read_known(text: &[u8]) -> Result<Tree, RefusedText>
     requires { Known text.now }
     ensures { result ≡ read_of (blind_reading text.now) }
 {
@@ -82,59 +130,42 @@ fn read_known(text: &[u8]) -> TreeRead
     let end = read_run(text, 0, 0, &mut left[..]);
     let at = end.at;
     if at == text.len() {
-        return TreeRead {
-            answer: Answer::Accepted,
-            tree: Tree {
-                n: end.n + 1,
-                left,
-                kinds: node_kinds(text),
-            },
-        };
+        return Ok(Tree {
+            n: end.n + 1,
+            left,
+            kinds: node_kinds(text),
+        });
     }
-    let role = form_role(text[at]);
-    match role {
-        Role::Closing => refused(Ground::ClosesNothing, at),
-        _ => refused(Ground::NeverClosed, at),
+    match form_role(text[at]) {
+        Role::Closing => Err(refused(Ground::ClosesNothing, at)),
+        _ => Err(refused(Ground::NeverClosed, at)),
     }
 }
 
-// Whether ground 24 is given, at the byte `other` of a text: it comes after 3 and 4.
-fn kinds_refused(answer: Answer, other: usize, len: usize) -> bool
-    ensures { result ≡ (is_accepted answer && ltb other len) }
-{
-    match answer {
-        Answer::Accepted => other < len,
-        _ => false,
-    }
-}
-
-// The same of any text, or grounds 2, 3 and 4 and then 24: it is read in dot-bracket form, which has its roles and not its kinds. The kinds are
-// passed whatever 3 and 4 say, and count only if they say nothing.
-fn read_written(text: &[u8]) -> TreeRead
+/// The same of any text, or grounds 2, 3 and 4 and then 24: it is read in dot-bracket form, which has its roles and not its kinds.
+fn read_written(text: &[u8]) -> Result<Tree, RefusedText>
     requires { length text.now ≤ 255 }
     ensures { result ≡ read_of (with_kinds text.now (blind_reading text.now)) }
 {
-    let len = text.len();
     let form = dot_bracket(text);
-    let written = &form[0..len];
+    let written = &form[..text.len()];
     if !in_dot_bracket(written) {
-        return refused(Ground::UnknownByte, first_refused(text));
+        return Err(refused(Ground::UnknownByte, first_refused(text)));
     }
-    let read = read_known(written);
-    let answer = read.answer;
+    let tree = read_known(written)?;
     let other = first_other_kind(text, written);
-    if kinds_refused(answer, other, len) {
-        return refused(Ground::ClosesOtherKind, other);
+    if other < text.len() {
+        return Err(refused(Ground::ClosesOtherKind, other));
     }
-    read
+    Ok(tree)
 }
 
-// The tree of a text, or the first refusal with its byte and the tree of ".". A text in dot-bracket form needs no copy, and has brackets of one kind.
-pub fn read(text: &[u8]) -> TreeRead
+/// The tree of a text, or the first refusal with its byte and the tree of ".". A text in dot-bracket form needs no copy, and has brackets of one kind.
+pub fn read(text: &[u8]) -> Result<Tree, RefusedText>
     ensures { result ≡ read_of (reading text.now) }
 {
     if bad_length(text.len()) {
-        return refused(Ground::TextLength, 0);
+        return Err(refused(Ground::TextLength, 0));
     }
     if in_dot_bracket(text) {
         return read_known(text);

@@ -12,5 +12,5 @@ slice_bounds-rises-end-then-rises c = cut_second _ _ c.pair_count-count.ensures
 pub returns-then-rises : goal.returns-then-rises
 returns-then-rises c = c.rises-then-rises.ensures ∙ sym (both_by _ _ c.pair_count-count.ensures rises rises (sym c.rises.ensures ∙ c.if-rises.true))
 
-pub returns : goal.returns
-returns c = sym (both_no _ _ c.pair_count-count.ensures rises rises (sym c.rises.ensures ∙ c.if-rises.false))
+pub returns-else-rises : goal.returns-else-rises
+returns-else-rises c = c.if-rises.false ∙ sym (both_no _ _ c.pair_count-count.ensures rises rises (sym c.rises.ensures ∙ c.if-rises.false))

@@ -2,4 +2,5 @@ use Rattle.tree.proofs.Trees.{tree_nested}
 use Rattle.judge.proofs.judge.Goals as goal
 
 pub judge_on-requires : goal.judge_on-requires
-judge_on-requires c = (tree_nested c.args.q c.requires.0, tree_nested c.args.t c.requires.1)
+judge_on-requires c =
+    (rw c.leaves.ensures.leaves (tree_nested c.args.q c.leaves.ensures.read), rw c.leaves-2.ensures.leaves (tree_nested c.args.t c.leaves-2.ensures.read))

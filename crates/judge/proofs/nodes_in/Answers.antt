@@ -1,22 +1,13 @@
-use Rattle.std.proofs.Common.{sym}
-use Rattle.judge.proofs.JudgeSteps.{node_no_q, node_no_t, node_yes}
-use Rattle.seed.proofs.Scans.{scan_within, scan_no, scan_on, scan_end}
+use Rattle.std.proofs.Common.{ℕ, ◌∙◌, rules, tests}
+use Rattle.std.proofs.lemmas.Iterator.{YieldsList-from_slice, YieldsList-from_zip}
+use Rattle.std.proofs.lemmas.Iterator.Search.{all_from_yields_List}
+use Rattle.seed.specs.Pairs.{pair_of}
+use Rattle.seed.specs.Tests.{node_in}
+use Rattle.seed.proofs.PairLists.{every_zip}
 use Rattle.judge.proofs.nodes_in.Goals as goal
 
-pub bounds-qs-k : goal.bounds-qs-k
-bounds-qs-k c = (scan_within c.loop-k.invariant c.loop-k-test.true).0
-
-pub returns-then-n-qs : goal.returns-then-n-qs
-returns-then-n-qs c = sym (scan_no c.loop-k.invariant c.loop-k-test.true (node_no_q _ _ _ _ c.if-n-qs.true))
-
-pub bounds-ts-k : goal.bounds-ts-k
-bounds-ts-k c = (scan_within c.loop-k.invariant c.loop-k-test.true).1
-
-pub returns-then-m-ts : goal.returns-then-m-ts
-returns-then-m-ts c = sym (scan_no c.loop-k.invariant c.loop-k-test.true (node_no_t _ _ _ _ c.if-n-qs.false c.if-m-ts.true))
-
-pub loop-k-preserved : goal.loop-k-preserved
-loop-k-preserved c = scan_on c.loop-k.invariant c.loop-k-test.true (node_yes _ _ _ _ c.if-n-qs.false c.if-m-ts.false)
-
 pub returns : goal.returns
-returns c = sym (scan_end c.loop-k.invariant c.loop-k-test.false)
+unfolding node_in
+returns c =
+    all_from_yields_List (λ (p : ℕ × ℕ). node_in c.args.n c.args.m (pair_of p.0 p.1)) c.all.new.self _ _ c.all.ensures.ran (YieldsList-from_zip (YieldsList-from_slice c.args.qs.now cc) (YieldsList-from_slice c.args.ts.now cc)) (λ x b q k. search (rules, tests))
+    ∙ every_zip (node_in c.args.n c.args.m) c.args.qs.now c.args.ts.now

@@ -1,15 +1,13 @@
-use Rattle.judge.proofs.JudgeSteps.{kind_asked}
-use Rattle.seed.proofs.Scans.{found_within, found_on, found_end}
+use Rattle.std.proofs.Common.{ℕ, ◌∙◌, rules, tests}
+use Rattle.std.proofs.lemmas.Iterator.{YieldsList-from_slice, YieldsList-from_zip}
+use Rattle.std.proofs.lemmas.Iterator.Search.{all_from_yields_List}
+use Rattle.seed.specs.Pairs.{pair_of}
+use Rattle.seed.specs.Tests.{same_kind}
+use Rattle.seed.proofs.PairLists.{every_zip}
 use Rattle.judge.proofs.same_kinds.Goals as goal
 
-pub bounds-qs-k : goal.bounds-qs-k
-bounds-qs-k c = (found_within c.loop-k.invariant c.loop-k-test.true).0
-
-pub bounds-ts-k : goal.bounds-ts-k
-bounds-ts-k c = (found_within c.loop-k.invariant c.loop-k-test.true).1
-
-pub loop-k-preserved : goal.loop-k-preserved
-loop-k-preserved c = found_on c.loop-k.invariant c.loop-k-test.true (kind_asked _ _ _ _) c.both-all.ensures
-
 pub returns : goal.returns
-returns c = found_end c.loop-k.invariant c.loop-k-test.false
+unfolding same_kind
+returns c =
+    all_from_yields_List (λ (p : ℕ × ℕ). same_kind c.args.kq.now c.args.kt.now (pair_of p.0 p.1)) c.all.new.self _ _ c.all.ensures.ran (YieldsList-from_zip (YieldsList-from_slice c.args.qs.now cc) (YieldsList-from_slice c.args.ts.now cc)) (λ x b q k. search (rules, tests))
+    ∙ every_zip (same_kind c.args.kq.now c.args.kt.now) c.args.qs.now c.args.ts.now

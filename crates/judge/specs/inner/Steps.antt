@@ -1,5 +1,5 @@
 -- What the judge's own functions ask of each other: rising lists of nodes, the rows of those below each, and the highest span nodes passed.
-use Rattle.std.specs.Prelude.{◌≡◌, Bool, true, false, List, ℕ, ◌+◌, ◌-◌, ◌≤◌, ◌<◌, length, get_or}
+use Rattle.std.specs.Prelude.{◌≡◌, Bool, true, false, List, ℕ, ◌+◌, ◌-◌, ◌≤◌, ◌<◌, length, get_or, Option, Some, None}
 use Rattle.tree.specs.Nested.{leaf, In, Nested}
 use Rattle.seed.specs.Seed.{last_node}
 use Rattle.seed.specs.Tests.{nodes_in, rises, rooted, spans, children, paired, bordered}
@@ -51,13 +51,13 @@ pub record Tops (f : ℕ → Bool) (l tops : List ℕ) (count x : ℕ) : Type 0 
   pub each : (p : ℕ) → p < count → f (get_or tops p 0) ≡ true
   pub all : (z : ℕ) → z < x → f z ≡ true → (p : ℕ) × (p < count) × In l (get_or tops p 0) z
 
--- The children of node x, whose last child is the last top: all of them tops, with `left` tops before them, or one of them none.
-pub data Joined (f : ℕ → Bool) (l tops : List ℕ) (count x left : ℕ) : Type 0 where
-  whole : left < count → Cut count tops (leaf l x) left → children f l (leaf l x) x x ≡ true → Joined f l tops count x left
-  broken : left ≡ count → children f l (leaf l x) x x ≡ false → Joined f l tops count x left
+-- The children of node x, whose last child is the last top: all of them tops, with so many tops before them, or one of them none.
+pub data Joined (f : ℕ → Bool) (l tops : List ℕ) (count x : ℕ) : Option ℕ → Type 0 where
+  whole : {left : ℕ} → left < count → Cut count tops (leaf l x) left → children f l (leaf l x) x x ≡ true → Joined f l tops count x (Some left)
+  broken : children f l (leaf l x) x x ≡ false → Joined f l tops count x None
 
 -- So it is for any f of which these are the tops, if node x is no leaf.
-abbrev pub Joins : List ℕ → List ℕ → ℕ → ℕ → ℕ → Type 0
+abbrev pub Joins : List ℕ → List ℕ → ℕ → ℕ → Option ℕ → Type 0
 Joins l tops count x left = (f : ℕ → Bool) → Nested l → Tops f l tops count x → get_or tops (count - 1) 0 + 1 ≡ x → leaf l x < x → Joined f l tops count x left
 
 -- Whether the subtree of a node from a up to b starts at node x or before it.
@@ -84,7 +84,7 @@ pub record Climbing (l xs : List ℕ) (place : ℕ) (tops : List ℕ) (count : �
   pub top : get_or tops (count - 1) 0 ≡ get_or xs place 0
   pub past : Past l xs tops count (get_or xs place 0 + 1)
 
--- The nodes before the next listed one are passed, or one of them is an unpaired border node.
-pub data Passed (l xs : List ℕ) (place : ℕ) (tops : List ℕ) (count : ℕ) : Type 0 where
-  fine : 0 < count → Past l xs tops count (get_or xs (place + 1) 0) → Passed l xs place tops count
-  bare : count ≡ 0 → length tops ≡ 256 → bordered l xs ≡ false → Passed l xs place tops count
+-- The nodes before the next listed one are passed, with so many tops among them, or one of them is an unpaired border node.
+pub data Passed (l xs : List ℕ) (place : ℕ) (tops : List ℕ) : Option ℕ → Type 0 where
+  fine : {count : ℕ} → Past l xs tops count (get_or xs (place + 1) 0) → Passed l xs place tops (Some count)
+  bare : bordered l xs ≡ false → Passed l xs place tops None

@@ -1,25 +1,23 @@
 -- The bytes located spell the stretch, and lie where it stands in the text.
 use Rattle.std.proofs.Common.{◌≡◌, refl, sym, ap, ◌∙◌, List, [], ◌∷◌, ℕ, length, arith}
-use Rattle.stretch.specs.declared.search.Located.{Located}
-use Rattle.stretch.proofs.Searches.{part_of_lem, part_none}
+use Rattle.stretch.specs.declared.search.Ends.{Ends}
+use Rattle.stretch.proofs.Searches.{located_ok, located_err, part_of_lem, part_none}
 use Rattle.stretch.proofs.part.Goals as goal
 
 pub slice_bounds-result-end : goal.slice_bounds-result-end
-slice_bounds-result-end c = (part_of_lem _ _ _ _ c.locate-found.ensures).inside
+slice_bounds-result-end c = (part_of_lem _ _ _ _ (located_ok _ _ (sym c.in-Ok.is ∙ c.locate.ensures))).inside
 
-pub returns-in-Accepted : goal.returns-in-Accepted
-returns-in-Accepted c = record {
-  spells = (part_of_lem _ _ _ _ c.locate-found.ensures).is;
-  own = refl;
-  lies = omega (arith, ap (λ (l : Located). l.from) c.locate-found.ensures);
-}
+pub returns-in-Ok : goal.returns-in-Ok
+returns-in-Ok c =
+    let same = located_ok _ _ (sym c.in-Ok.is ∙ c.locate.ensures) in
+    record { spells = (part_of_lem _ _ _ _ same).is; own = refl; lies = omega (arith, ap (λ (e : Ends). e.from) same) }
 
 -- A part of no bytes is empty, wherever it lies.
 nothing : (xs : List ℕ) → length xs ≡ 0 → xs ≡ []
 nothing [] e = refl
 nothing (x ∷ xs) e = absurd (omega (arith, e))
 
-pub returns-in_default : goal.returns-in_default
-returns-in_default c =
-    let none = part_none _ _ _ (λ e. c.in_default.not-Accepted (ap (λ (l : Located). l.answer) c.locate-found.ensures ∙ e)) in
+pub returns-in-Err : goal.returns-in-Err
+returns-in-Err c =
+    let none = part_none _ _ _ (located_err _ _ (sym c.in-Err.is ∙ c.locate.ensures)) in
     record { spells = nothing _ (omega arith) ∙ sym none.0; own = refl; lies = omega (arith, none.1) }

@@ -1,14 +1,15 @@
 -- The scan that finds a stretch in a text, byte by byte.
-use Rattle.std.specs.Prelude.{◌≡◌, cond, ℕ, ◌+◌, List, [], ◌∷◌, leb, ltb}
-use Rattle.tree.specs.Run.{Run}
+use Rattle.std.specs.Prelude.{◌≡◌, cond, ℕ, ◌+◌, List, [], ◌∷◌, length, leb, ltb, Option, Some, None}
+use Rattle.tree.specs.Run.{Run, spell}
 use Rattle.character.specs.Character.{role_of}
 use Rattle.tree.specs.Reading.{reading}
 use Rattle.tree.specs.Reading.Reading.{text_accepted}
-use Rattle.stretch.specs.Stretch.{stretch_in, located_by}
+use Rattle.stretch.specs.Stretch.{Found, stretch_in, Located}
+use Rattle.stretch.specs.Stretch.Found.{at, nowhere}
 use Rattle.character.specs.declared.Role.{Role}
 use Rattle.character.specs.declared.Role.TheVariants.{Unpaired, Opening, Closing, Refused}
 use Rattle.stretch.specs.declared.search.Scan.{Scan}
-use Rattle.stretch.specs.declared.search.Located.{Located}
+use Rattle.stretch.specs.declared.search.Ends.{Ends}
 
 -- The nodes that a byte ends, and how many bytes such a node has of its own.
 abbrev pub ends_of : Role → ℕ
@@ -39,6 +40,15 @@ abbrev pub scan_to : ℕ → ℕ → Scan → List ℕ → Scan
 scan_to a b c [] = c
 scan_to a b c (x ∷ s) = cond (ltb b c.nodes) c (scan_to a b (counted a x c) s)
 
+-- The bytes that spell what is located.
+abbrev pub ends_in : Located → Ends
+ends_in l = record { from = l.from; to = l.to }
+
+-- The bytes that spell what is found, if anything is.
+abbrev pub found_ends : Found → Option Ends
+found_ends (at k y) = Some (record { from = k; to = k + length (spell y) })
+found_ends nowhere = None
+
 -- What a search in an accepted text must answer.
-abbrev pub LocatedRight : List ℕ → ℕ → ℕ → Located → Type 0
-LocatedRight s a b l = (r : Run) → reading s ≡ text_accepted r → l ≡ located_by (stretch_in r a b)
+abbrev pub LocatedRight : List ℕ → ℕ → ℕ → Option Ends → Type 0
+LocatedRight s a b found = (r : Run) → reading s ≡ text_accepted r → found ≡ found_ends (stretch_in r a b)

@@ -1,4 +1,4 @@
-use Rattle.std.proofs.Common.{◌≡◌, ◌-◌, length}
+use Rattle.std.proofs.Common.{length}
 use Rattle.seed.specs.Tests.{alike_to}
 use Rattle.seed.specs.Pairs.{pairs_of}
 use Rattle.seed.proofs.Scans.{Passed}
@@ -7,8 +7,4 @@ use Rattle.judge.proofs.ancestry.alike.Given as goal
 
 -- The pairs passed were alike, so the answer is that of the rest.
 abbrev pub invariant-loop-place : goal.invariant-loop-place
-invariant-loop-place l =
-    (length l.rows ≡ 256) × Rows l.lq l.qs l.rows l.place × Passed (alike_to l.lq l.lt (pairs_of l.qs l.ts)) l.qs l.ts (length l.qs) l.place
-
-abbrev pub decreases-loop-place : goal.decreases-loop-place
-decreases-loop-place l = length l.qs - l.place
+invariant-loop-place l = Rows l.lq l.qs l.rows l.place × Passed (alike_to l.lq l.lt (pairs_of l.qs l.ts)) l.qs l.ts (length l.qs) l.place

@@ -3,10 +3,15 @@ use Rattle.judge.proofs.Tops.{tops_ups}
 use Rattle.judge.proofs.Climbs.{pass_listed}
 use Rattle.judge.proofs.border.pass.Goals as goal
 
-pub kept-left-requires : goal.kept-left-requires
-kept-left-requires c =
+pub kept-left-requires-clause-rising : goal.kept-left-requires-clause-rising
+kept-left-requires-clause-rising c =
     let pre = c.requires in
-    (tops_ups pre.listed.tree pre.past.highest, omega (arith, pre.past.highest.few, pre.past.room, c.type_inv.xs c.args.place))
+    tops_ups pre.listed.tree pre.past.highest
+
+pub kept-left-requires-clause-within : goal.kept-left-requires-clause-within
+kept-left-requires-clause-within c =
+    let pre = c.requires in
+    omega (arith, pre.past.highest.few, c.type_inv.xs c.args.place)
 
 pub climb-requires : goal.climb-requires
 climb-requires c =

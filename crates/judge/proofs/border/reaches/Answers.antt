@@ -1,8 +1,9 @@
-use Rattle.std.proofs.Common.{arith}
-use Rattle.judge.proofs.Climbs.{reach_on}
+use Rattle.std.proofs.Common.{◌≤◌, ◌<◌, rules, tests}
+use Rattle.std.proofs.lemmas.Iterator.{YieldsList-from_slice, cases_from_any}
+use Rattle.judge.proofs.Climbs.{reach_by}
 use Rattle.judge.proofs.border.reaches.Goals as goal
 
-pub loop-x-preserved : goal.loop-x-preserved
-loop-x-preserved c =
-    let inv = c.loop-x.invariant in
-    (omega (arith, inv.0), omega (arith, c.loop-x-test.true), reach_on inv.2 inv.0 c.either-found.ensures)
+pub returns : goal.returns
+returns c =
+    reach_by c.args.l.now c.requires.run c.requires.within c.args.node c.any.result
+    (cases_from_any _ _ _ (λ x. x ≤ c.args.node) (λ x. c.args.node < x) c.any.ensures.ran (YieldsList-from_slice _ c.iter.ensures.rest) (λ x q k. search (rules, tests)) (λ x q k. search (rules, tests)))
