@@ -1,5 +1,5 @@
-// The gaps of a seed. Each node of a tree is given the number of the gap that it lies in, by a scan of the seed's nodes in that tree: then a pair of
-// nodes fits the seed exactly if their gaps are the same and not 0.
+//! The gaps of a seed. Each node of a tree is given the number of the gap that it lies in, by a scan of the seed's nodes in that tree: then a pair of
+//! nodes fits the seed exactly if their gaps are the same and not 0.
 #![tactic(auto)]
 
 ghost use Rattle.std.specs.Prelude.{◌≡◌, ◌≤◌, length};
@@ -9,33 +9,29 @@ ghost use Rattle.gap.specs.GapNumbers as gaps;
 use seed::{pair_count, side};
 use tree::Tree;
 
-// The gaps of the nodes of Q and of T, by their numbers; 0 behind the last node.
+/// The gaps of the nodes of Q and of T, by their numbers; 0 behind the last node.
 #[derive(Clone, Copy)]
 pub struct Gaps {
     pub q: [usize; 256],
     pub t: [usize; 256],
 }
 
-// What a node on the left or on the right of another counts.
+/// What a node on the left or on the right of another counts.
 #[tactic(auto, unfolding(crate::specs::GapNumbers::weight))]
 fn weight(side: u8) -> usize
     ensures { result ≡ gaps.weight side }
 {
-    if side == 0 {
-        return 256;
-    }
-    1
+    if side == 0 { 256 } else { 1 }
 }
 
-// The gap of node i among the nodes of a seed, which rise: how many lie left of it, and how many right of it before the nearest above it.
+/// The gap of node i among the nodes of a seed, which rise: how many lie left of it, and how many right of it before the nearest above it.
 fn gap(l: &[u8], nodes: &[u8], i: usize) -> usize
     requires { length nodes.now ≤ 256 }
     ensures { result ≡ gaps.gap l.now nodes.now i }
 {
     let mut gap = 1;
-    let mut k = 0;
-    while k < nodes.len() {
-        let side = side(l, nodes[k] as usize, i);
+    for &node in nodes {
+        let side = side(l, node as usize, i);
         if side == 3 {
             return 0;
         }
@@ -43,37 +39,31 @@ fn gap(l: &[u8], nodes: &[u8], i: usize) -> usize
             return gap;
         }
         gap += weight(side);
-        k += 1;
     }
     0
 }
 
-// The gaps of all nodes of a tree.
+/// The gaps of all nodes of a tree.
 fn gaps_in(l: &[u8], nodes: &[u8]) -> [usize; 256]
-    requires { (length l.now ≤ 256) × (length nodes.now ≤ 256) }
+    requires leaves_few { length l.now ≤ 256 }
+    requires nodes_few { length nodes.now ≤ 256 }
     ensures { result ≡ gaps.filled (gaps.gap l.now nodes.now) (length l.now) }
 {
-    let mut all: [usize; 256] = [0; 256];
-    let mut i = 0;
-    while i < l.len() {
+    let mut all = [0usize; 256];
+    for i in 0..l.len() {
         all[i] = gap(l, nodes, i);
-        i += 1;
     }
     all
 }
 
-// The gaps of the seed of these q and t, as far as both lists go.
+/// The gaps of the seed of these q and t, as far as both lists go.
 pub fn gaps_of<'a>(q: Tree, t: Tree, qs: &'a [u8], ts: &'a [u8]) -> Gaps
     requires { Held q t (pairs_of qs.now ts.now) }
     ensures { result ≡ gaps.gaps_in q t (pairs_of qs.now ts.now) }
 {
-    let k = pair_count(qs, ts);
-    let n = q.n;
-    let m = t.n;
-    let lq = q.left;
-    let lt = t.left;
+    let count = pair_count(qs, ts);
     Gaps {
-        q: gaps_in(&lq[..n], &qs[..k]),
-        t: gaps_in(&lt[..m], &ts[..k]),
+        q: gaps_in(q.leaves(), &qs[..count]),
+        t: gaps_in(t.leaves(), &ts[..count]),
     }
 }

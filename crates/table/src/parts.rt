@@ -1,18 +1,13 @@
-// Where the part of a seed begins and ends.
-ghost use Rattle.std.specs.Prelude.{◌≡◌, min, get_or};
+//! Where the part of a seed begins and ends.
+ghost use Rattle.std.specs.Prelude.{◌≡◌, get_or};
 
-// Where the pairs of the seed at place i begin, and 0 if there is no such place.
+/// Where the pairs of the seed at place i begin, and 0 if there is no such place.
 pub fn bound_at(bounds: &[u16], i: usize) -> usize
     ensures { result ≡ get_or bounds.now i 0 }
 {
     if i < bounds.len() {
-        return bounds[i] as usize;
+        bounds[i] as usize
+    } else {
+        0
     }
-    0
-}
-
-pub fn lesser(a: usize, b: usize) -> usize
-    ensures { result ≡ min a b }
-{
-    if a < b { a } else { b }
 }

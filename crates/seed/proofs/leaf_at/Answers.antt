@@ -7,5 +7,5 @@ pub returns-then-i-l : goal.returns-then-i-l
 unfolding leaf
 returns-then-i-l c = search rules
 
-pub returns : goal.returns
-returns c = sym (leaf_past _ _ c.if-i-l.false)
+pub returns-else-i-l : goal.returns-else-i-l
+returns-else-i-l c = sym (leaf_past _ _ c.if-i-l.false)

@@ -9,8 +9,8 @@ returns-then-score-geminus1000000 c =
     let h = rw (to_z-of_z f) at c.if-score-geminus1000000.true in
     rw (to_z-of_z f, h)
 
-pub returns : goal.returns
+pub returns-else-score-geminus1000000 : goal.returns-else-score-geminus1000000
 unfolding in_range
-returns c =
+returns-else-score-geminus1000000 c =
     let h = rw (to_z-of_z c.ranges.score) at c.if-score-geminus1000000.false in
-    rw h
+    rw (to_z-of_z c.ranges.score, h)

@@ -5,4 +5,4 @@ pub returns-then-bounds-i : goal.returns-then-bounds-i
 returns-then-bounds-i c = nodes_none c.args.nodes.now c.args.bounds.now _ c.if-bounds-i.true
 
 pub returns : goal.returns
-returns c = nodes_clipped c.args.nodes.now c.args.bounds.now _ _ _ c.bound_at.ensures c.bound_at-2.ensures c.lesser-to.ensures c.lesser-from.ensures
+returns c = nodes_clipped c.args.nodes.now c.args.bounds.now _ _ _ c.bound_at.ensures c.bound_at-2.ensures c.min-to.ensures c.min-from.ensures

@@ -1,18 +1,12 @@
-use Rattle.std.proofs.Common.{sym, ◌∙◌}
-use Rattle.seed.proofs.Scans.{scan_within, scan_no, scan_on, scan_end}
+use Rattle.std.proofs.Common.{ℕ, ◌∙◌, rules, tests}
+use Rattle.std.proofs.lemmas.Iterator.{YieldsList-from_slice, YieldsList-from_zip}
+use Rattle.std.proofs.lemmas.Iterator.Search.{all_from_yields_List}
+use Rattle.seed.specs.Pairs.{pair_of}
+use Rattle.seed.specs.AreaList.{level}
+use Rattle.seed.proofs.PairLists.{every_zip}
 use Rattle.seed.proofs.stands.all_level.Goals as goal
 
-pub bounds-qs-k : goal.bounds-qs-k
-bounds-qs-k c = (scan_within c.loop-k.invariant c.loop-k-test.true).0
-
-pub bounds-ts-k : goal.bounds-ts-k
-bounds-ts-k c = (scan_within c.loop-k.invariant c.loop-k-test.true).1
-
-pub returns-then-not-level : goal.returns-then-not-level
-returns-then-not-level c = sym (scan_no c.loop-k.invariant c.loop-k-test.true (sym c.level.ensures ∙ c.if-not-level.true))
-
-pub loop-k-preserved : goal.loop-k-preserved
-loop-k-preserved c = scan_on c.loop-k.invariant c.loop-k-test.true (sym c.level.ensures ∙ c.if-not-level.false)
-
 pub returns : goal.returns
-returns c = sym (scan_end c.loop-k.invariant c.loop-k-test.false)
+returns c =
+    all_from_yields_List (λ (p : ℕ × ℕ). level c.args.lq.now c.args.lt.now c.args.i c.args.j (pair_of p.0 p.1)) c.all.new.self _ _ c.all.ensures.ran (YieldsList-from_zip (YieldsList-from_slice c.args.qs.now cc) (YieldsList-from_slice c.args.ts.now cc)) (λ x b q k. search (rules, tests))
+    ∙ every_zip (level c.args.lq.now c.args.lt.now c.args.i c.args.j) c.args.qs.now c.args.ts.now
