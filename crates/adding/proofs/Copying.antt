@@ -1,19 +1,11 @@
--- Bytes copied into an array: turn by turn, what ends before them, and the copy itself.
+-- Bytes copied into an array: what ends before them, and the copy itself.
 use mathlib.Core.Path.{◌≡◌, sym, ap, ◌∙◌}
 use mathlib.Core.List.{List, ◌++◌}
-use Prim.Native.Nat.{ℕ, ◌+◌, ◌-◌, ◌≤◌, ◌<◌}
-use native.Mathlib.Numerals.{add-one}
+use Prim.Native.Nat.{ℕ, ◌+◌, ◌-◌, ◌≤◌}
 use native.Mathlib.Omega.{arith}
-use lib.ListN.{length, get_or, set, take, drop, length-drop, take-append-drop}
-use lib.Seq.{paste, paste-suc, length_paste_head, drop-append-le, take-append-le, drop_at, take_at, length-take-le, take-length}
+use lib.ListN.{length, take, drop, length-drop, take-append-drop}
+use lib.Seq.{paste, length_paste_head, drop-append-le, take-append-le, drop_at, take_at, length-take-le, take-length}
 use Rattle.table.specs.Table.{between}
-
--- The loop that copies: one more byte, and the end.
-pub paste_more : (d s r : List ℕ) (at i : ℕ) → at + i < length d → i < length s → r ≡ paste d at s i → set r (at + i) (get_or s i 0) ≡ paste d at s (i + 1)
-paste_more d s r at i hd hs e = rw (e, add-one i) (paste-suc d at s i 0 hd hs)
-
-pub paste_done : (d s r : List ℕ) (at i : ℕ) → i ≤ length s → length s ≤ i → r ≡ paste d at s i → r ≡ paste d at s (length s)
-paste_done d s r at i h k e = let x : i ≡ length s = omega arith in e ∙ ap (λ (n : ℕ). paste d at s n) x
 
 -- A part of a list with another list behind it.
 between_append : (x y : List ℕ) (a b : ℕ) → a ≤ b → b ≤ length x → between (x ++ y) a b ≡ between x a b

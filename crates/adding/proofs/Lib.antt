@@ -1,3 +1,4 @@
 pub mod Copying
 pub mod Appended
+pub mod Results
 pub mod Next

@@ -6,16 +6,14 @@ use mathlib.Core.List.{List, [], ◌∷◌, ◌++◌}
 use Prim.Native.Nat.{ℕ, ◌+◌, ◌≤◌, ◌<◌}
 use native.Mathlib.Omega.{arith}
 use lib.ListN.{length, take}
+use Rattle.std.proofs.Common.{Result, Ok, Err}
 use lib.Seq.{length-take-le}
 use lib.IntN.{ℤ}
 use borrow.Author.Tests.{leb-false, ltb-false, eqb-false, not-false, le-ltb, lt-leb, ne_eqb}
-use Rattle.answer.specs.Answer.{unless}
-use Rattle.answer.specs.declared.Ground.{Ground}
-use Rattle.answer.specs.declared.Place.{Place}
-use Rattle.answer.specs.declared.Answer.{Answer}
-use Rattle.answer.specs.declared.Answer.TheVariants.{Accepted, Refused}
-use Rattle.answer.proofs.Denied.{denies}
-use Rattle.answer.proofs.Given.{not_given, not_refused, unless_refused}
+use Rattle.answer.specs.Answer.{unless, Accepted, Refused}
+use Rattle.answer.specs.Refusal.{result_of}
+use Rattle.answer.specs.declared.Refusal.{Refusal}
+use Rattle.answer.proofs.Given.{not_given, not_refused}
 use Rattle.tree.specs.Nested.{Nested}
 use Rattle.tree.specs.Reading.{leaves_of}
 use Rattle.tree.specs.declared.Tree.{Tree}
@@ -92,16 +90,16 @@ module _ (q t : Tree) (tree_q : Nested (leaves_of q)) (tree_t : Nested (leaves_o
   next_exactly = (addable, adds)
 
 -- The answer, by the table's fields: refused by the limits, or what the judge says.
-module _ (q t : Tree) (table : Table) (ps : List Pair) (z : ℤ) (h : Kept q t table) {n : ℕ} (count : n ≡ length ps) {a : Answer} (is-a : a ≡ limit_answer table.seeds table.pairs n z) where
-  by_limits : next_answer q t (rows_of table) ps z ≡ unless a (judge_of q t ps (table.seeds + 1))
+module _ (q t : Tree) (table : Table) (ps : List Pair) (z : ℤ) (h : Kept q t table) {n : ℕ} (count : n ≡ length ps) where
+  by_limits : next_answer q t (rows_of table) ps z ≡ unless (limit_answer table.seeds table.pairs n z) (judge_of q t ps (table.seeds + 1))
   unfolding next_answer
-  by_limits = rw (is-a, count, rows_length table, rows_count table h.laid)
+  by_limits = rw (count, rows_length table, rows_count table h.laid)
 
-  pub next_limited : {g : Ground} {p : Place} → a ≡ Refused g p → a ≡ next_answer q t (rows_of table) ps z
-  next_limited e = sym (by_limits ∙ unless_refused a _ (denies e))
+  pub next_limited : {r : Refusal} → Refused r.ground r.place ≡ limit_answer table.seeds table.pairs n z → ◌≡◌ {A = Result (Unit {0}) Refusal} (Err r) (result_of (next_answer q t (rows_of table) ps z) tt)
+  next_limited e = rw (by_limits, ← e) refl
 
-  pub next_judged : a ≡ Accepted → {b : Answer} → b ≡ judge_of q t ps (table.seeds + 1) → b ≡ next_answer q t (rows_of table) ps z
-  next_judged ok e = e ∙ sym (by_limits ∙ ap (λ (x : Answer). unless x (judge_of q t ps (table.seeds + 1))) ok)
+  pub next_judged : Accepted ≡ limit_answer table.seeds table.pairs n z → {r : Result (Unit {0}) Refusal} → r ≡ result_of (judge_of q t ps (table.seeds + 1)) tt → r ≡ result_of (next_answer q t (rows_of table) ps z) tt
+  next_judged ok e = rw (by_limits, ← ok) e
 
 -- Two lists cut to the pairs that they have are the same pairs.
 pairs_cut : (a b : List ℕ) → pairs_of (take (length (pairs_of a b)) a) (take (length (pairs_of a b)) b) ≡ pairs_of a b
@@ -117,13 +115,13 @@ pub cut_t : (qs ts : List ℕ) (n : ℕ) → n ≡ length (pairs_of qs ts) → n
 cut_t qs ts n e = sym (length-take-le n ts (omega (arith, count_most qs ts)))
 
 -- The whole call: two lists of any lengths, cut to the n pairs that they have.
-module _ (q t : Tree) (table : Table) (qs ts : List ℕ) (z : ℤ) (h : Kept q t table) {a : Answer} (e : a ≡ next_answer q t (rows_of table) (pairs_of qs ts) z) where
-  pub grows_not : {g : Ground} {p : Place} → a ≡ Refused g p → Grows q t table (pairs_of qs ts) z a table
-  grows_not f = record { answers = e; accepted = λ x. absurd (denies f x); refused = λ n. refl; kept = h }
+module _ (q t : Tree) (table : Table) (qs ts : List ℕ) (z : ℤ) (h : Kept q t table) where
+  pub grows_not : {r : Refusal} → Refused r.ground r.place ≡ next_answer q t (rows_of table) (pairs_of qs ts) z → Grows q t table (pairs_of qs ts) z (Err r)
+  grows_not e = record { answers = e; accepted = tt; kept = tt }
 
-  module _ (ok : a ≡ Accepted) (n : ℕ) (count : n ≡ length (pairs_of qs ts)) where
+  module _ (ok : Accepted ≡ next_answer q t (rows_of table) (pairs_of qs ts) z) (n : ℕ) (count : n ≡ length (pairs_of qs ts)) where
     known : Addable q t (rows_of table) (pairs_of qs ts) z
-    known = addable q t (tree_nested q h.is_q) (tree_nested t h.is_t) (rows_of table) (pairs_of qs ts) z (sym e ∙ ok)
+    known = addable q t (tree_nested q h.is_q) (tree_nested t h.is_t) (rows_of table) (pairs_of qs ts) z (sym ok)
 
     pub add_room : SeedRoom table (take n qs) (take n ts)
     add_room =
@@ -141,13 +139,12 @@ module _ (q t : Tree) (table : Table) (qs ts : List ℕ) (z : ℤ) (h : Kept q t
     cut : pairs_of (take n qs) (take n ts) ≡ pairs_of qs ts
     cut = ap (λ (k : ℕ). pairs_of (take k qs) (take k ts)) count ∙ pairs_cut qs ts
 
-    pub grows : {r : Table} → r ≡ with_seed table (take n qs) (take n ts) z → Grows q t table (pairs_of qs ts) z a r
+    pub grows : {r : Table} → r ≡ with_seed table (take n qs) (take n ts) z → Grows q t table (pairs_of qs ts) z (Ok r)
     grows is =
         let rows = rows_new table (take n qs) (take n ts) z add_room ∙ ap (λ (ps : List Pair). rows_of table ++ new_row ps z ∷ []) cut in
         rw is record {
-          answers = e;
-          accepted = λ x. rows;
-          refused = λ denied. absurd (denied ok);
+          answers = ok;
+          accepted = rows;
           kept = record {
             is_q = h.is_q;
             is_t = h.is_t;

@@ -1,10 +1,8 @@
--- A list of pairs judged as the next seed of a table (document 01, grounds 11 to 19; document 02, c, ground 25), and the rows with it.
-use Rattle.std.specs.Prelude.{◌≡◌, true, not, List, [], ◌∷◌, ◌++◌, ℕ, ◌+◌, ◌≤◌, ◌<◌, length, ℤ, leb, ltb, eqb}
-use Rattle.answer.specs.Answer.{given, unless}
+-- A list of pairs judged as the next seed of a table, and the rows with it.
+use Rattle.std.specs.Prelude.{◌≡◌, true, not, List, [], ◌∷◌, ◌++◌, ℕ, ◌+◌, ◌≤◌, ◌<◌, length, ℤ, leb, ltb, eqb, Result, IfOk}
+use Rattle.answer.specs.Answer.{given, unless, Answer, Accepted}
 use Rattle.answer.specs.declared.Ground.TheVariants.{ScoreRange, NoPairs, SeedLimit, PairLimit}
 use Rattle.answer.specs.declared.Place.TheVariants.{Seed}
-use Rattle.answer.specs.declared.Answer.{Answer}
-use Rattle.answer.specs.declared.Answer.TheVariants.{Accepted}
 use Rattle.tree.specs.declared.Tree.{Tree}
 use Rattle.seed.specs.Seed as seed
 use Rattle.seed.specs.declared.Pair.{Pair}
@@ -12,6 +10,8 @@ use Rattle.judge.specs.Judge.{judge_of}
 use Rattle.table.specs.Rows.{Row, new_row, pairs_in_all, in_range}
 use Rattle.table.specs.Table.{rows_of, Kept}
 use Rattle.table.specs.declared.Table.{Table}
+use Rattle.answer.specs.Refusal.{answer_in}
+use Rattle.answer.specs.declared.Refusal.{Refusal}
 
 -- A list that is a seed of two trees and keeps the limits of a table with these rows.
 pub record Addable (q t : Tree) (rows : List Row) (ps : List Pair) (z : ℤ) : Type 0 where
@@ -32,9 +32,8 @@ limit_answer seeds pairs count z =
 unfoldable pub next_answer : Tree → Tree → List Row → List Pair → ℤ → Answer
 next_answer q t rows ps z = unless (limit_answer (length rows) (pairs_in_all rows) (length ps) z) (judge_of q t ps (length rows + 1))
 
--- What adding a list promises that answers so and hands over the next table: one present row more, or the very table.
-pub record Grows (q t : Tree) (table : Table) (ps : List Pair) (z : ℤ) (answer : Answer) (next : Table) : Type 0 where
-  pub answers : answer ≡ next_answer q t (rows_of table) ps z
-  pub accepted : answer ≡ Accepted → rows_of next ≡ rows_of table ++ new_row ps z ∷ []
-  pub refused : (answer ≡ Accepted → ⊥) → next ≡ table
-  pub kept : Kept q t next
+-- What adding a list promises: its answer, and if it is accepted the next table, with one present row more.
+pub record Grows (q t : Tree) (table : Table) (ps : List Pair) (z : ℤ) (r : Result Table Refusal) : Type 0 where
+  pub answers : answer_in r ≡ next_answer q t (rows_of table) ps z
+  pub accepted : IfOk r (λ next. rows_of next ≡ rows_of table ++ new_row ps z ∷ [])
+  pub kept : IfOk r (λ next. Kept q t next)

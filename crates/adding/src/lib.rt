@@ -1,15 +1,16 @@
-// A list of pairs judged as the next seed of a table, and the table with it.
+//! A list of pairs judged as the next seed of a table, and the table with it.
 #![tactic(auto)]
 
 mod appending;
 mod limits;
 
 ghost use Rattle.std.specs.Prelude.{◌≡◌};
+ghost use Rattle.answer.specs.Refusal.{result_of};
 ghost use Rattle.seed.specs.Pairs.{pairs_of};
 ghost use Rattle.table.specs.Table.{rows_of, Kept};
 ghost use Rattle.adding.specs.Adding.{next_answer, Grows};
 
-use answer::Answer;
+use answer::Refusal;
 use appending::appended;
 use judge::judge;
 use limits::judge_limits;
@@ -17,42 +18,35 @@ use seed::pair_count;
 use table::Table;
 use tree::Tree;
 
-// What is answered of a list, and the table with it: as it was beside a refusal.
-#[derive(Clone, Copy)]
-pub struct Grown {
-    pub answer: Answer,
-    pub table: Table,
+/// Judges by the limits first, and then as a seed of the two trees.
+fn judge_next(
+    q: Tree,
+    t: Tree,
+    table: Table,
+    qs: &[u8],
+    ts: &[u8],
+    score: i32,
+) -> Result<(), Refusal>
+    requires { Kept q t table }
+    ensures { result ≡ result_of (next_answer q t (rows_of table) (pairs_of qs.now ts.now) score) tt }
+{
+    judge_limits(table.seeds, table.pairs, pair_count(qs, ts), score)?;
+    judge(q, t, qs, ts, table.seeds + 1)
 }
 
-// Grounds 11 to 14, then 15, 25 and 16 to 19.
-fn judge_next(q: Tree, t: Tree, table: Table, qs: &[u8], ts: &[u8], score: i32) -> Answer
+/// The table with the seed of these q and t, as far as both lists go, behind the last, present and with this score.
+pub fn with_seed(
+    q: Tree,
+    t: Tree,
+    table: Table,
+    qs: &[u8],
+    ts: &[u8],
+    score: i32,
+) -> Result<Table, Refusal>
     requires { Kept q t table }
-    ensures { result ≡ next_answer q t (rows_of table) (pairs_of qs.now ts.now) score }
+    ensures { Grows q t table (pairs_of qs.now ts.now) score result }
 {
-    let limits = judge_limits(table.seeds, table.pairs, pair_count(qs, ts), score);
-    match limits {
-        Answer::Accepted => judge(q, t, qs, ts, table.seeds + 1),
-        _ => limits,
-    }
-}
-
-// The table with the seed of these q and t, as far as both lists go, behind the last, present and with this score.
-pub fn with_seed(q: Tree, t: Tree, table: Table, qs: &[u8], ts: &[u8], score: i32) -> Grown
-    requires { Kept q t table }
-    ensures { Grows q t table (pairs_of qs.now ts.now) score result.answer result.table }
-{
-    let answer = judge_next(q, t, table, qs, ts, score);
-    match answer {
-        Answer::Accepted => {
-            let count = pair_count(qs, ts);
-            Grown {
-                answer,
-                table: appended(table, &qs[..count], &ts[..count], score),
-            }
-        }
-        Answer::Refused {
-            ground: _,
-            place: _,
-        } => Grown { answer, table },
-    }
+    judge_next(q, t, table, qs, ts, score)?;
+    let count = pair_count(qs, ts);
+    Ok(appended(table, &qs[..count], &ts[..count], score))
 }

@@ -1,27 +1,29 @@
-// The grounds of a new seed that look at plain numbers.
+//! What a new seed is refused for by plain numbers.
 ghost use Rattle.std.specs.Prelude.{◌≡◌, ◌≤◌};
+ghost use Rattle.answer.specs.Refusal.{result_of};
 ghost use Rattle.adding.specs.Adding.{limit_answer};
 
-use answer::{Answer, Ground, Place, refused};
+use answer::{Ground, Place, Refusal};
 use table::in_range;
 
-// Grounds 11 to 14 of a seed with so many pairs, for a table of so many seeds and pairs.
-pub fn judge_limits(seeds: usize, pairs: usize, count: usize, score: i32) -> Answer
-    requires { (seeds ≤ 64) × (pairs ≤ 1024) }
-    ensures { result ≡ limit_answer seeds pairs count score }
+/// Judges a seed with so many pairs, for a table of so many seeds and pairs.
+pub fn judge_limits(seeds: usize, pairs: usize, count: usize, score: i32) -> Result<(), Refusal>
+    requires seeds_few { seeds ≤ 64 }
+    requires pairs_few { pairs ≤ 1024 }
+    ensures { result ≡ result_of (limit_answer seeds pairs count score) tt }
 {
-    let number = seeds + 1;
+    let number = Place::Seed(seeds + 1);
     if !in_range(score) {
-        return refused(Ground::ScoreRange, Place::Seed(number));
+        return Err(Ground::ScoreRange.at(number));
     }
     if count == 0 {
-        return refused(Ground::NoPairs, Place::Seed(number));
+        return Err(Ground::NoPairs.at(number));
     }
     if 64 <= seeds {
-        return refused(Ground::SeedLimit, Place::Seed(number));
+        return Err(Ground::SeedLimit.at(number));
     }
     if 1024 - pairs < count {
-        return refused(Ground::PairLimit, Place::Seed(number));
+        return Err(Ground::PairLimit.at(number));
     }
-    Answer::Accepted
+    Ok(())
 }

@@ -1,10 +1,11 @@
--- Document 01's areas, and others at their edges, computed from the definitions.
+-- Areas of small seeds, and others at their edges, computed from the definitions.
+use Rattle.std.proofs.Common.{Ok, Err}
 use mathlib.Core.Path.{◌≡◌, refl}
 use mathlib.Core.List.{List, [], ◌∷◌, map}
 use Prim.Native.Nat.{ℕ}
 use Rattle.answer.specs.declared.Ground.TheVariants.{OutputShort}
 use Rattle.answer.specs.declared.Place.TheVariants.{Nothing}
-use Rattle.answer.specs.declared.Answer.TheVariants.{Accepted, Refused}
+use Rattle.answer.specs.Refusal.{refusal_at}
 use Rattle.write.specs.Wrote.{output_of}
 use Rattle.tree.specs.Nested.{leaf}
 use Rattle.seed.specs.Tests.{every, above}
@@ -58,13 +59,13 @@ abbrev short : List ℕ
 short = 7 ∷ 7 ∷ 7 ∷ 7 ∷ 7 ∷ 7 ∷ 7 ∷ []
 
 accepted :
-    (listed_of (areas A B (pair_of 3 1 ∷ pair_of 5 4 ∷ [])) room ≡ record { answer = Accepted; count = 2 })
+    (listed_of (areas A B (pair_of 3 1 ∷ pair_of 5 4 ∷ [])) room ≡ Ok 2)
     × (output_of (bytes_of (areas A B (pair_of 3 1 ∷ pair_of 5 4 ∷ []))) room ≡ 0 ∷ 2 ∷ 0 ∷ 0 ∷ 4 ∷ 4 ∷ 2 ∷ 3 ∷ 7 ∷ [])
 unfolding leaf every above side level fits first_below last_below column box_at begins box_row boxes areas bytes_of listed_of output_of
 accepted = (refl, refl)
 
 refused :
-    (listed_of (areas A B (pair_of 3 1 ∷ pair_of 5 4 ∷ [])) short ≡ record { answer = Refused OutputShort Nothing; count = 0 })
+    (listed_of (areas A B (pair_of 3 1 ∷ pair_of 5 4 ∷ [])) short ≡ Err (refusal_at OutputShort Nothing))
     × (output_of (bytes_of (areas A B (pair_of 3 1 ∷ pair_of 5 4 ∷ []))) short ≡ short)
 unfolding leaf every above side level fits first_below last_below column box_at begins box_row boxes areas bytes_of listed_of output_of
 refused = (refl, refl)

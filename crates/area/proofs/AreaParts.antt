@@ -1,4 +1,5 @@
 -- The parts of its memory that listing the areas hands on: of trees that were read, of lists that hold a seed, and of arrays of gaps.
+use Rattle.std.proofs.Common.{Result}
 use mathlib.Core.Path.{◌≡◌, sym, ap, subst, ◌∙◌}
 use mathlib.Core.List.Memᴰ
 use mathlib.Core.List.{List}
@@ -18,7 +19,7 @@ use Rattle.gap.specs.declared.Gaps.{Gaps}
 use Rattle.area.specs.inner.Walk.{boxes_by, Walkable, AsMany}
 use Rattle.area.specs.Listed.{ListedRight}
 use Rattle.seed.specs.Pairs.{pairs_of, Held}
-use Rattle.area.specs.declared.Listed.{Listed}
+use Rattle.answer.specs.declared.Refusal.{Refusal}
 use Rattle.area.specs.declared.Order.{Order}
 use Rattle.area.specs.declared.Order.TheVariants.{RisingA, Paper}
 use Rattle.seed.proofs.PairLists.{nodes_first}
@@ -101,5 +102,5 @@ module _
         ∙ ap length (sym (held_areas RisingA))
 
 -- What is right of the same areas is right.
-pub listed_as : (xs ys : List Box) (o : List ℕ) (r : Listed) (after : List ℕ) → xs ≡ ys → ListedRight xs o r after → ListedRight ys o r after
+pub listed_as : (xs ys : List Box) (o : List ℕ) (r : Result ℕ Refusal) (after : List ℕ) → xs ≡ ys → ListedRight xs o r after → ListedRight ys o r after
 listed_as xs ys o r after e = subst (λ (zs : List Box). ListedRight zs o r after) e

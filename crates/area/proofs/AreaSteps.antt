@@ -1,4 +1,5 @@
 -- What one step of the code that lists areas does to its counts and searches.
+use Rattle.std.proofs.Common.{Ok, Err}
 use mathlib.Core.Path.{◌≡◌, refl, sym, ap, ◌∙◌}
 use mathlib.Core.Bool.{Bool, true, false, not, cond, false≢true}
 use mathlib.Core.Logic.{inl, inr}
@@ -13,7 +14,7 @@ use lib.Seq.{sets}
 use borrow.Author.Tests.{eq-eqb, ne_eqb, lt-ltb, le-ltb, le-leb, lt-leb}
 use Rattle.answer.specs.declared.Ground.TheVariants.{OutputShort}
 use Rattle.answer.specs.declared.Place.TheVariants.{Nothing}
-use Rattle.answer.specs.declared.Answer.TheVariants.{Accepted, Refused}
+use Rattle.answer.specs.Refusal.{refusal_at}
 use Rattle.write.specs.Puts.{Puts, Room}
 use Rattle.write.proofs.Puts.{puts_as, puts_none, puts_output, puts_length, puts_both, room_last}
 use Rattle.write.proofs.Wrote.{output_all, output_none}
@@ -181,13 +182,13 @@ module _ (g h : List ℕ) {o₀ : List ℕ} (room : Room (bytes_of (boxes_below 
 
 -- The answer, by whether the output has room.
 module _ (xs : List Box) (o : List ℕ) (k : ℕ) (e : k ≡ length xs) where
-  pub list_refused : length o < k * 4 → ListedRight xs o (record { answer = Refused OutputShort Nothing; count = 0 }) o
+  pub list_refused : length o < k * 4 → ListedRight xs o (Err (refusal_at OutputShort Nothing)) o
   unfolding listed_of
   list_refused h =
       let g : length o < length (bytes_of xs) = omega (arith, bytes_length xs) in
       record { answer = rw (lt-leb _ _ g); output = output_none (bytes_of xs) o g }
 
-  pub list_accepted : (after : List ℕ) → k * 4 ≤ length o → after ≡ sets o 0 (bytes_of xs) → ListedRight xs o (record { answer = Accepted; count = k }) after
+  pub list_accepted : (after : List ℕ) → k * 4 ≤ length o → after ≡ sets o 0 (bytes_of xs) → ListedRight xs o (Ok k) after
   unfolding listed_of
   list_accepted after h f =
       let g : length (bytes_of xs) ≤ length o = omega (arith, bytes_length xs) in

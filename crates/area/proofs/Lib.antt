@@ -1,5 +1,6 @@
 pub mod GapLists
 pub mod AreaSteps
+pub mod Firsts
 pub mod AreaParts
 pub mod Walks
 pub mod Nearest

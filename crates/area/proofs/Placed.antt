@@ -1,4 +1,5 @@
 -- The areas of the seed at a place of a table, and of no seed: none.
+use Rattle.std.proofs.Common.{Result, Ok}
 use mathlib.Core.Path.{◌≡◌, refl, subst}
 use mathlib.Core.Bool.{Bool, true, false, ◌&&◌}
 use mathlib.Core.List.{List, [], flat_map}
@@ -6,7 +7,6 @@ use Prim.Native.Nat.{ℕ, zero, suc, ◌≤◌, ◌<◌}
 use native.Mathlib.Omega.{arith}
 use lib.ListN.{length, get_or}
 use borrow.Author.Tests.{le-ltb}
-use Rattle.answer.specs.declared.Answer.TheVariants.{Accepted}
 use Rattle.tree.specs.Reading.{leaves_of}
 use Rattle.tree.specs.declared.Tree.{Tree}
 use Rattle.seed.specs.Pairs.{pairs_of, Held}
@@ -19,7 +19,7 @@ use Rattle.table.specs.declared.Table.{Table}
 use Rattle.table.proofs.Tables.{rows_length, row_there, row_past}
 use Rattle.area.specs.PaperOrder.{areas_in_paper_order, areas_by}
 use Rattle.area.specs.Listed.{ListedRight}
-use Rattle.area.specs.declared.Listed.{Listed}
+use Rattle.answer.specs.declared.Refusal.{Refusal}
 use Rattle.area.specs.declared.Order.{Order}
 use Rattle.area.specs.declared.Order.TheVariants.{RisingA, Paper}
 use Rattle.area.proofs.AreaSteps.{list_accepted}
@@ -51,7 +51,7 @@ unfolding areas_by areas areas_in_paper_order flat_map
 no_areas RisingA Q T = no_boxes (fits Q T []) (nothing_fits Q T) (length Q) (length T) (length Q)
 no_areas Paper Q T = refl
 
-pub listed_none : (q t : Tree) (table : Table) (at : ℕ) (order : Order) (out : List ℕ) → table.seeds ≤ at → ListedRight (areas_by order (leaves_of q) (leaves_of t) (get_or (rows_of table) at no_row).pairs) out (record { answer = Accepted; count = 0 }) out
+pub listed_none : (q t : Tree) (table : Table) (at : ℕ) (order : Order) (out : List ℕ) → table.seeds ≤ at → ListedRight (areas_by order (leaves_of q) (leaves_of t) (get_or (rows_of table) at no_row).pairs) out (Ok 0) out
 unfolding bytes_of
 listed_none q t table at order out l = rw (row_past table at l, no_areas order (leaves_of q) (leaves_of t)) (list_accepted [] out 0 refl out (omega arith) refl)
 
@@ -65,5 +65,5 @@ module _ (q t : Tree) (table : Table) (at : ℕ) (h : Kept q t table) (l : at < 
   pub held_there : Held q t (pairs_of a b)
   held_there = record { is_q = h.is_q; is_t = h.is_t; seed = rw pairs_are (h.each at (omega (arith, rows_length table))).seed }
 
-  pub listed_there : (order : Order) {before after : List ℕ} {r : Listed} → ListedRight (areas_by order (leaves_of q) (leaves_of t) (pairs_of a b)) before r after → ListedRight (areas_by order (leaves_of q) (leaves_of t) (get_or (rows_of table) at no_row).pairs) before r after
+  pub listed_there : (order : Order) {before after : List ℕ} {r : Result ℕ Refusal} → ListedRight (areas_by order (leaves_of q) (leaves_of t) (pairs_of a b)) before r after → ListedRight (areas_by order (leaves_of q) (leaves_of t) (get_or (rows_of table) at no_row).pairs) before r after
   listed_there order {before} {after} {r} w = subst (λ (ps : List Pair). ListedRight (areas_by order (leaves_of q) (leaves_of t) ps) before r after) pairs_are w

@@ -105,29 +105,23 @@ module _ (l nodes g h : List ℕ) (k : ℕ) where
   unfolding boxes_in_order flat_map bytes_of
   order_end u = rw (drop_of_length-le nodes u)
 
--- Writing the boxes in order, with those of the last nodes left, so many.
-pub record NodesLeft (l nodes g h o₀ : List ℕ) (left at : ℕ) (o : List ℕ) : Type 0 where
-  pub few : left ≤ length nodes
-  pub rest : Left (bytes_of (boxes_in_order l nodes g h)) 0 o₀ (bytes_of (boxes_in_order l (drop (length nodes - left) nodes) g h)) at o
+-- Writing the boxes in order, with those of the nodes from place k on left.
+pub record NodesLeft (l nodes g h o₀ : List ℕ) (k at : ℕ) (o : List ℕ) : Type 0 where
+  pub rest : Left (bytes_of (boxes_in_order l nodes g h)) 0 o₀ (bytes_of (boxes_in_order l (drop k nodes) g h)) at o
 
-pub nodes_all : (l nodes g h : List ℕ) {o : List ℕ} → NodesLeft l nodes g h o (length nodes) 0 o
-nodes_all l nodes g h = let z : length nodes - length nodes ≡ 0 = omega arith in record { few = omega arith; rest = rw z left_all }
+pub nodes_all : (l nodes g h : List ℕ) {o : List ℕ} → NodesLeft l nodes g h o 0 0 o
+nodes_all l nodes g h = record { rest = left_all }
 
-module _ {l nodes g h o₀ : List ℕ} (room : Room (bytes_of (boxes_in_order l nodes g h)) 0 o₀) {left at : ℕ} {o : List ℕ} (p : NodesLeft l nodes g h o₀ left at o) where
-  module _ (u : 0 < left) where
-    pub node_place : length nodes - left < length nodes
-    node_place = omega (arith, p.few)
+module _ {l nodes g h o₀ : List ℕ} (room : Room (bytes_of (boxes_in_order l nodes g h)) 0 o₀) {k at : ℕ} {o : List ℕ} (p : NodesLeft l nodes g h o₀ k at o) where
+  module _ (u : k < length nodes) where
+    pub node_room : Room (bytes_of (boxes_under l g h (get_or nodes k 0))) at o
+    node_room = room_first (left_room p.rest room) _ (order_next l nodes g h k u)
 
-    pub node_room : Room (bytes_of (boxes_under l g h (get_or nodes (length nodes - left) 0))) at o
-    node_room = room_first (left_room p.rest room) _ (order_next l nodes g h (length nodes - left) node_place)
+    pub node_written : {after : List ℕ} {next : ℕ} → Puts (bytes_of (boxes_under l g h (get_or nodes k 0))) at o after next → NodesLeft l nodes g h o₀ (k + 1) next after
+    node_written put = record { rest = left_less p.rest room (order_next l nodes g h k u) put }
 
-    pub node_written : {after : List ℕ} {next : ℕ} → Puts (bytes_of (boxes_under l g h (get_or nodes (length nodes - left) 0))) at o after next → NodesLeft l nodes g h o₀ (left - 1) next after
-    node_written put =
-        let z : length nodes - (left - 1) ≡ length nodes - left + 1 = omega (arith, p.few) in
-        record { few = omega (arith, p.few); rest = rw z (left_less p.rest room (order_next l nodes g h (length nodes - left) node_place) put) }
-
-  pub nodes_written : left ≤ 0 → o ≡ sets o₀ 0 (bytes_of (boxes_in_order l nodes g h))
-  nodes_written u = puts_output room (left_none p.rest room (order_end l nodes g h (length nodes - left) (omega arith)))
+  pub nodes_written : length nodes ≤ k → o ≡ sets o₀ 0 (bytes_of (boxes_in_order l nodes g h))
+  nodes_written u = puts_output room (left_none p.rest room (order_end l nodes g h k u))
 
 -- ---- either order
 

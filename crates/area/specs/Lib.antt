@@ -1,4 +1,4 @@
--- What a reader believes, in document 01's order.
+-- What a reader believes.
 pub mod PaperOrder
 pub mod Listed
 -- What only the contracts of inner functions cite.

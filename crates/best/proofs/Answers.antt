@@ -8,7 +8,10 @@ use lib.Dec.{ltb}
 use lib.IntN.{pos}
 use lib.ListN.{length, replicate}
 use lib.Signed.{◌≤ℤ◌}
-use Rattle.answer.specs.declared.Answer.TheVariants.{Accepted}
+use Rattle.std.proofs.Common.{Ok, Err}
+use Rattle.answer.specs.Refusal.{refusal_at}
+use Rattle.answer.specs.declared.Ground.TheVariants.{ScratchShort}
+use Rattle.answer.specs.declared.Place.TheVariants.{Nothing}
 use Rattle.tree.specs.Reading.{leaves_of}
 use Rattle.tree.specs.declared.Tree.{Tree}
 use Rattle.tree.proofs.Trees.{tree_nested}
@@ -23,17 +26,17 @@ use Rattle.optimum.specs.Key.{in_mask}
 use Rattle.optimum.specs.inner.Table.{stored}
 use Rattle.optimum.specs.inner.Table as optimum
 use Rattle.standing.specs.Standing.{Stood}
-use Rattle.best.specs.Best.{key_of, scratch_needed, too_short, best_of, scratch_after, Answered}
+use Rattle.best.specs.Best.{key_of, scratch_needed, best_of, scratch_after, Answered}
 use Rattle.best.specs.inner.Scratch.{score_by, items_of, Posed}
 use Rattle.standing.specs.declared.Standing.{Standing}
 use Rattle.best.proofs.Listing.{posed, key_is}
 
 module _ (q t : Tree) (table : Table) where
-  pub best_refused : (xs : List ℕ) → ltb (length xs) scratch_needed ≡ true → Answered q t table xs xs too_short
+  pub best_refused : (xs : List ℕ) → ltb (length xs) scratch_needed ≡ true → Answered q t table xs xs (Err (refusal_at ScratchShort Nothing))
   unfolding best_of scratch_after
   best_refused xs short = record { answer = rw short; scratch = rw short }
 
-  pub best_accepted : (xs ys zs : List ℕ) (total mask : ℕ) (chain : List Bool) → ltb (length xs) scratch_needed ≡ false → stored total mask ≡ key_of (leaves_of q) (leaves_of t) (rows_of table) → chain ≡ tab 64 (in_mask mask) → length ys ≡ length xs → zs ≡ replicate (length ys) 0 → Answered q t table xs zs (record { answer = Accepted; total = total; chain = chain })
+  pub best_accepted : (xs ys zs : List ℕ) (total mask : ℕ) (chain : List Bool) → ltb (length xs) scratch_needed ≡ false → stored total mask ≡ key_of (leaves_of q) (leaves_of t) (rows_of table) → chain ≡ tab 64 (in_mask mask) → length ys ≡ length xs → zs ≡ replicate (length ys) 0 → Answered q t table xs zs (Ok (record { total = total; chain = chain }))
   unfolding best_of scratch_after
   best_accepted xs ys zs total mask chain room e c l z =
       record {

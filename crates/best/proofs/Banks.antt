@@ -17,8 +17,7 @@ use Rattle.optimum.proofs.Keys.{◌≼◌, ≼_refl, ≼_trans, ≼-antisym, bet
 use Rattle.optimum.proofs.Maxima.{max_empty, max_upper, max_least}
 use Rattle.masks.specs.Masks.{minus}
 use Rattle.best.specs.inner.Scratch.{key_at, row_bank, marked, RowRises}
-use Rattle.masks.proofs.Bits.{in_either, alone_is, minus_from, minus_gone}
-use Rattle.masks.proofs.Bits.{nothing}
+use Rattle.masks.proofs.Bits.{in_either, alone_is, minus_from, minus_gone, nothing}
 
 module _ (xs ys : List ℕ) (base k t m : ℕ) (e : ys ≡ set (set xs (base + k) t) (base + 64 + k) m) where
   pub put_long : length ys ≡ length xs

@@ -1,4 +1,5 @@
--- The key that is found by trying all chains is that of the best chain in document 01's words, and the answer names that chain.
+-- The key that is found by trying all chains is that of the best chain as the rule says it, and the answer names that chain.
+use Rattle.std.proofs.Common.{Result, Ok}
 use mathlib.Core.Path.{◌≡◌, refl, sym, ◌∙◌, fun_ext}
 use mathlib.Core.Bool.{Bool, false}
 use mathlib.Core.List.{List}
@@ -33,6 +34,7 @@ use Rattle.table.proofs.Tables.{rows_length}
 use Rattle.table.proofs.Ranges.{range_most}
 use Rattle.best.specs.Best.{key_of, best_of_key, scratch_needed, best_of, seeds_of, named, NamesBest, Answered}
 use Rattle.best.specs.declared.Best.{Best}
+use Rattle.answer.specs.declared.Refusal.{Refusal}
 use Rattle.masks.proofs.Bits.{told_yes}
 
 -- ---- the list of 64 answers
@@ -89,18 +91,20 @@ module _ {Q T : List ℕ} (tree_q : Nested Q) (tree_t : Nested T) (rows : List R
   unfolding key_of
   set_total = best_total S (λ i. i) test (seed_key (λ i. (row_in rows i).score)) (λ i. (row_in rows i).present) (length rows) numbered
 
-  -- The best chain: the answer names the chain that is best of all by document 01, with exactly its total.
+  -- The best chain: the answer names the chain that is best of all, with exactly its total.
   pub best_chain_lem : length rows ≤ 64 → NamesBest S (best_of_key key)
   best_chain_lem few =
       let e = tab_is (in_mask key.mask) 64 (λ i t. omega (arith, best_set.chain.given i t)) in
       record { chain_best = rw e best_set; total_is = rw (e, set_total) (best_natural S (in_mask key.mask) best_set) }
 
--- The call on a long enough scratch names the best chain of the table's seeds.
-pub call_best : (q t : Tree) (table : Table) (xs ys : List ℕ) (r : Best) → Kept q t table → Answered q t table xs ys r → scratch_needed ≤ length xs → NamesBest (seeds_of (leaves_of q) (leaves_of t) (rows_of table)) r
+-- The call on a long enough scratch is accepted, and names the best chain of the table's seeds.
+pub call_best : (q t : Tree) (table : Table) (xs ys : List ℕ) (r : Result Best Refusal) → Kept q t table → Answered q t table xs ys r → scratch_needed ≤ length xs → (best : Best) × (r ≡ Ok best) × NamesBest (seeds_of (leaves_of q) (leaves_of t) (rows_of table)) best
 unfolding best_of
-call_best q t table xs ys r h a room =
-    rw (a.answer, le-ltb (length xs) scratch_needed room)
-    (best_chain_lem (tree_nested q h.is_q) (tree_nested t h.is_t) (rows_of table) (λ i b. (h.each i b).seed.pattern) (omega (arith, rows_length table, h.laid.few)))
+call_best q t table xs ys r h a room = (
+  best_of_key (key_of (leaves_of q) (leaves_of t) (rows_of table)),
+  a.answer ∙ rw (le-ltb (length xs) scratch_needed room),
+  best_chain_lem (tree_nested q h.is_q) (tree_nested t h.is_t) (rows_of table) (λ i b. (h.each i b).seed.pattern) (omega (arith, rows_length table, h.laid.few)),
+)
 
 -- ---- how much a best total is at most
 

@@ -1,4 +1,4 @@
--- Document 01's starred best chains, computed from the definitions.
+-- Best chains of small decks, computed from the definitions.
 use mathlib.Core.Path.{◌≡◌, refl}
 use mathlib.Core.Bool.{Bool, true, false, cond}
 use mathlib.Core.List.{List, [], ◌∷◌, map}
@@ -17,6 +17,9 @@ use Rattle.seed.specs.Tab.{tab}
 use Rattle.table.specs.Rows.{Row}
 use Rattle.best.specs.Best.{key_of, scratch_needed, best_of}
 use Rattle.best.specs.declared.Best.{Best}
+use Rattle.answer.specs.Refusal.{answer_in}
+use Rattle.answer.specs.declared.Refusal.{Refusal}
+use Rattle.std.proofs.Common.{Result, Ok, Err}
 
 -- The leftmost leaves of `(.(.)).` and of `(.)(.)`.
 abbrev A : List ℕ
@@ -42,12 +45,17 @@ record Case : Type 0 where
   total : ℕ
   chain : List ℕ
 
-answered : Case → Best
+answered : Case → Result Best Refusal
 answered r = best_of A B r.seeds r.room
 
+shown_as : Case → Result Best Refusal → Case
+unfolding numbers
+shown_as r (Ok best) = record { seeds = r.seeds; room = r.room; says = accepted; total = best.total; chain = numbers 1 best.chain }
+shown_as r (Err refusal) = record { seeds = r.seeds; room = r.room; says = said (answer_in {T = Best} (Err refusal)); total = 0; chain = [] }
+
 shown : Case → Case
-unfolding answered numbers
-shown r = record { seeds = r.seeds; room = r.room; says = said (answered r).answer; total = (answered r).total; chain = numbers 1 (answered r).chain }
+unfolding answered
+shown r = shown_as r (answered r)
 
 -- The five seeds, with the score of the fourth and the presence of the second.
 five : ℤ → Bool → List Row
@@ -70,5 +78,5 @@ cases =
     ∷ []
 
 best_chains : map shown cases ≡ cases
-unfolding one numbers answered shown five case cases leaf every above side level fits left under chainable in_mask empty ◌⊕◌ no_better better optimum.best key_of tab best_of
+unfolding one numbers answered shown_as shown five case cases leaf every above side level fits left under chainable in_mask empty ◌⊕◌ no_better better optimum.best key_of tab best_of
 best_chains = refl

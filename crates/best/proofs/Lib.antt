@@ -1,4 +1,3 @@
-pub mod Filling
 pub mod Signs
 pub mod Members
 pub mod Banks

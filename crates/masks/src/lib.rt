@@ -1,20 +1,28 @@
-// Masks: sets of the numbers 0 to 63, as the bits of a u64.
+//! Masks: sets of the numbers 0 to 63, as the bits of a u64.
 #![tactic(auto)]
 
-ghost use Rattle.std.specs.Prelude.{◌≡◌};
+ghost use Rattle.std.specs.Prelude.{◌≡◌, ◌^◌, ◌<◌};
 ghost use Rattle.masks.specs.Masks.{Highest, minus};
 
-// The highest number that a mask has, and 0 if it has none.
+/// The mask of one number.
+pub fn bit(number: usize) -> u64
+    requires { number < 64 }
+    ensures { result ≡ 2 ^ number }
+{
+    1 << number
+}
+
+/// The highest number that a mask has, and 0 if it has none.
 pub fn highest(mask: u64) -> usize
     ensures { Highest mask result }
 {
     if mask == 0 {
         return 0;
     }
-    63 - u64::leading_zeros(mask) as usize
+    63 - mask.leading_zeros() as usize
 }
 
-// The mask without the numbers of another.
+/// The mask without the numbers of another.
 pub fn without(mask: u64, other: u64) -> u64
     ensures { result ≡ minus mask other }
 {

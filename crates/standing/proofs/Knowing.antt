@@ -10,8 +10,7 @@ use Rattle.standing.specs.inner.Stands.{widened_by, masks_widened, stand_of, Com
 use Rattle.standing.specs.declared.stands.Stand.{Stand}
 use Rattle.standing.specs.declared.stands.Masks.{Masks}
 use Rattle.masks.specs.Masks.{minus}
-use Rattle.masks.proofs.Bits.{either, in_either, mask_same, mask_past, alone_has, alone_is, below_has, minus_from, minus_gone}
-use Rattle.masks.proofs.Bits.{nothing}
+use Rattle.masks.proofs.Bits.{either, in_either, mask_same, mask_past, alone_has, alone_is, below_has, minus_from, minus_gone, nothing}
 
 -- ---- what a widened mask has
 

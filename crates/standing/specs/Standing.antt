@@ -1,5 +1,4 @@
--- The present seeds of a table in order, and how they stand to one another (document 01, "Pairs, seeds, chains"). Seeds are numbered from 0
--- here.
+-- The present seeds of a table in order, and how they stand to one another. Seeds are numbered from 0 here.
 use Rattle.std.specs.Prelude.{◌≡◌, ℕ, ◌+◌, ◌*◌, ◌<◌, ◌≤◌, Bool, true, List, length, ℤ, slice_index}
 use Rattle.tree.specs.Reading.{leaves_of}
 use Rattle.tree.specs.declared.Tree.{Tree}

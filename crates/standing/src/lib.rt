@@ -1,4 +1,4 @@
-// How the present seeds of a table stand to one another.
+//! How the present seeds of a table stand to one another.
 #![tactic(auto)]
 
 mod order;
@@ -11,8 +11,8 @@ use order::ordered;
 use stands::relate;
 use tree::Tree;
 
-// The numbers of the present seeds, counted from 0, by rising q of the last pair and then by number, as many as count says; and for each the
-// masks of those before it that stand left of it and under it.
+/// The numbers of the present seeds, counted from 0, by rising q of the last pair and then by number, as many as count says; and for each the
+/// masks of those before it that stand left of it and under it.
 #[derive(Clone, Copy)]
 pub struct Standing {
     pub count: usize,
@@ -21,15 +21,7 @@ pub struct Standing {
     pub unders: [u64; 64],
 }
 
-// The leftmost leaves of a tree's nodes, as the part of the array that has them.
-fn leaves_in(left: &[u8], n: usize) -> &[u8]
-    requires { n ≤ length left.now }
-    ensures { result.now ≡ take n left.now }
-{
-    &left[..n]
-}
-
-// How the present seeds of a table, which lies in these arrays, stand to one another.
+/// How the present seeds of a table, which lies in these arrays, stand to one another.
 pub fn stood<'a>(
     q: Tree,
     t: Tree,
@@ -43,7 +35,7 @@ pub fn stood<'a>(
     ensures { StoodIn q t qs.now ts.now bounds.now present.now seeds result }
 {
     let order = ordered(qs, bounds, present, seeds);
-    let lq = leaves_in(&q.left, q.n);
-    let lt = leaves_in(&t.left, t.n);
+    let lq = q.leaves();
+    let lt = t.leaves();
     relate(lq, lt, qs, ts, bounds, order)
 }

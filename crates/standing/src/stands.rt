@@ -1,4 +1,4 @@
-// How the seeds of a list stand to one another, by masks.
+//! How the seeds of a list stand to one another, by masks.
 ghost use Rattle.std.specs.Prelude.{◌≡◌, ◌^◌, ◌<◌, ◌≤◌, [], ◌∷◌, slice_index};
 ghost use Rattle.seed.specs.Pairs.{pair_of, pairs_of};
 ghost use Rattle.seed.specs.Seed.{last_pair};
@@ -6,26 +6,26 @@ ghost use Rattle.standing.specs.inner.Stands.{stand_of, masks_of, widened_by, ma
 
 use super::Standing;
 use super::order::Order;
-use masks::{highest, without};
+use masks::{bit, highest, without};
 use seed::stands::fits;
 use seed::{Pair, last_pair, leaf_at};
 use table::nodes_of;
 
-// Whether a seed stands left of another, and whether under it.
+/// Whether a seed stands left of another, and whether under it.
 #[derive(Clone, Copy)]
 pub struct Stand {
     pub left: bool,
     pub under: bool,
 }
 
-// Which seeds stand left of another, and which under it.
+/// Which seeds stand left of another, and which under it.
 #[derive(Clone, Copy)]
 pub struct Masks {
     pub left: u64,
     pub under: u64,
 }
 
-// How a seed whose last pair is s stands to the seed of uq and ut, whose last pair is u.
+/// How a seed whose last pair is s stands to the seed of uq and ut, whose last pair is u.
 fn stands_to(lq: &[u8], lt: &[u8], uq: &[u8], ut: &[u8], u: Pair, s: Pair) -> Stand
     requires { u ≡ last_pair (pairs_of uq.now ut.now) }
     ensures { result ≡ stand_of lq.now lt.now (s ∷ []) (pairs_of uq.now ut.now) }
@@ -42,26 +42,15 @@ fn stands_to(lq: &[u8], lt: &[u8], uq: &[u8], ut: &[u8], u: Pair, s: Pair) -> St
     }
 }
 
-// The mask of one number.
-fn bit(i: usize) -> u64
-    requires { i < 64 }
-    ensures { result ≡ 2 ^ i }
-{
-    1u64 << i
-}
-
-// The mask, if it is on, with k and with the numbers of another mask.
+/// The mask, if it is on, with k and with the numbers of another mask.
 fn widened(mask: u64, on: bool, k: usize, more: u64) -> u64
     requires { k < 64 }
     ensures { result ≡ widened_by mask on k more }
 {
-    if on {
-        return mask | bit(k) | more;
-    }
-    mask
+    if on { mask | bit(k) | more } else { mask }
 }
 
-// The last pair of the seed at place k.
+/// The last pair of the seed at place k.
 fn last_in(rq: &[u8; 64], rt: &[u8; 64], k: usize) -> Pair
     requires { k < 64 }
     ensures { result ≡ pair_of (slice_index rq.now k) (slice_index rt.now k) }
@@ -69,8 +58,8 @@ fn last_in(rq: &[u8; 64], rt: &[u8; 64], k: usize) -> Pair
     Pair { q: rq[k], t: rt[k] }
 }
 
-// The masks with the seed at place k, as it stands, and with those that its own masks have: what is under a seed stands as that seed does, and
-// what is left of one that stands left is left too.
+/// The masks with the seed at place k, as it stands, and with those that its own masks have: what is under a seed stands as that seed does, and
+/// what is left of one that stands left is left too.
 fn with_seed(m: Masks, stand: Stand, k: usize, lefts: &[u64; 64], unders: &[u64; 64]) -> Masks
     requires { k < 64 }
     ensures { result ≡ masks_widened m stand k (slice_index lefts.now k) (slice_index unders.now k) }
@@ -83,8 +72,8 @@ fn with_seed(m: Masks, stand: Stand, k: usize, lefts: &[u64; 64], unders: &[u64;
     }
 }
 
-// How the seeds before place y stand to the seed of uq and ut, which is there. The last pairs of those
-// before y are in rq and rt, and their masks in lefts and unders: what a seed that is looked at tells of is not looked at.
+/// How the seeds before place y stand to the seed of uq and ut, which is there. The last pairs of those
+/// before y are in rq and rt, and their masks in lefts and unders: what a seed that is looked at tells of is not looked at.
 fn masks_at(
     lq: &[u8],
     lt: &[u8],
@@ -96,13 +85,14 @@ fn masks_at(
     unders: &[u64; 64],
     y: usize,
 ) -> Masks
-    requires fact_1 { y < 64 }
-    requires fact_2 { Composed lq.now lt.now (alone rq.now rt.now) (pairs_of uq.now ut.now) lefts.now unders.now y }
+    requires place { y < 64 }
+    requires composed { Composed lq.now lt.now (alone rq.now rt.now) (pairs_of uq.now ut.now) lefts.now unders.now y }
     ensures { result ≡ masks_of lq.now lt.now (alone rq.now rt.now) (pairs_of uq.now ut.now) y }
 {
     let u = last_pair(uq, ut);
     let mut masks = Masks { left: 0, under: 0 };
     let mut rest = bit(y) - 1;
+    // What is taken off hangs on the masks so far, so this is no `for`.
     while rest != 0 {
         let k = highest(rest);
         let stand = stands_to(lq, lt, uq, ut, u, last_in(rq, rt, k));
@@ -112,7 +102,7 @@ fn masks_at(
     masks
 }
 
-// The seeds of a list with the masks of each.
+/// The seeds of a list with the masks of each.
 pub fn relate<'a>(
     lq: &[u8],
     lt: &[u8],
@@ -121,16 +111,17 @@ pub fn relate<'a>(
     bounds: &'a [u16],
     order: Order,
 ) -> Standing
-    requires fact_1 { order.count ≤ 64 }
-    requires fact_2 { Lawful lq.now lt.now (seed_by qs.now ts.now bounds.now order.numbers) order.count }
-    ensures { Related lq.now lt.now (seed_by qs.now ts.now bounds.now order.numbers) order.count result.lefts result.unders × (result.count ≡ order.count) × (result.numbers ≡ order.numbers) }
+    requires few { order.count ≤ 64 }
+    requires lawful { Lawful lq.now lt.now (seed_by qs.now ts.now bounds.now order.numbers) order.count }
+    ensures related { Related lq.now lt.now (seed_by qs.now ts.now bounds.now order.numbers) order.count result.lefts result.unders }
+    ensures count { result.count ≡ order.count }
+    ensures numbers { result.numbers ≡ order.numbers }
 {
     let mut rq = [0u8; 64];
     let mut rt = [0u8; 64];
     let mut lefts = [0u64; 64];
     let mut unders = [0u64; 64];
-    let mut y = 0;
-    while y < order.count {
+    for y in 0..order.count {
         let i = order.numbers[y] as usize;
         let uq = nodes_of(qs, bounds, i);
         let ut = nodes_of(ts, bounds, i);
@@ -140,7 +131,6 @@ pub fn relate<'a>(
         rt[y] = u.t;
         lefts[y] = m.left;
         unders[y] = m.under;
-        y += 1;
     }
     let numbers = order.numbers;
     Standing {

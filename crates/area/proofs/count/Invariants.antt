@@ -1,10 +1,7 @@
 -- The areas of the rows passed are counted.
-use Rattle.std.proofs.Common.{length, ◌≡◌, ◌≤◌, ◌-◌}
+use Rattle.std.proofs.Common.{length, ◌≡◌}
 use Rattle.area.specs.inner.Boxes.{boxes_below}
 use Rattle.area.proofs.count.Given as goal
 
 abbrev pub invariant-loop-a : goal.invariant-loop-a
-invariant-loop-a l = (l.a ≤ length l.g) × (l.count ≡ length (boxes_below l.g l.h l.a))
-
-abbrev pub decreases-loop-a : goal.decreases-loop-a
-decreases-loop-a l = length l.g - l.a
+invariant-loop-a l = l.count ≡ length (boxes_below l.g l.h l.a)

@@ -4,7 +4,7 @@ use Rattle.area.proofs.AreaSteps.{begins_in, row_skipped, row_written}
 use Rattle.area.proofs.write_row.Goals as goal
 
 pub returns-then-not-begins : goal.returns-then-not-begins
-returns-then-not-begins c = row_skipped _ _ _ _ c.first_like-c.ensures c.requires.3 (sym c.if-not-begins.ensures)
+returns-then-not-begins c = row_skipped _ _ _ _ c.first_like-c.ensures c.requires.room (sym c.if-not-begins.ensures)
 
 pub offset_bounds-h-c : goal.offset_bounds-h-c
 offset_bounds-h-c c = let u = begins_in _ _ _ _ (sym c.if-not-begins.ensures) in omega arith

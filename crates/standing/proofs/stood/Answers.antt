@@ -2,13 +2,13 @@
 use Rattle.standing.proofs.Arrays.{lawful, stood_is}
 use Rattle.standing.proofs.stood.Goals as goal
 
-pub relate-requires-clause-fact_2 : goal.relate-requires-clause-fact_2
-relate-requires-clause-fact_2 c = rw (c.leaves_in-lt.ensures, c.leaves_in-lq.ensures) (lawful _ _ _ c.requires.kept _ c.ordered-order.ensures)
+pub relate-requires-clause-lawful : goal.relate-requires-clause-lawful
+relate-requires-clause-lawful c = rw (c.leaves-lt.ensures.leaves, c.leaves-lq.ensures.leaves) (lawful _ _ _ c.requires.kept _ c.ordered-order.ensures)
 
 pub returns : goal.returns
 returns c =
     λ scores kept.
     stood_is _ _ _ kept _ c.ordered-order.ensures _
-    (rw (c.leaves_in-lt.ensures, c.leaves_in-lq.ensures) at c.relate.ensures.0)
-    c.relate.ensures.1
-    c.relate.ensures.2
+    (rw (c.leaves-lt.ensures.leaves, c.leaves-lq.ensures.leaves) at c.relate.ensures.related)
+    c.relate.ensures.count
+    c.relate.ensures.numbers

@@ -7,17 +7,18 @@ loop-end-init c = children_all
 
 pub write_child-next-requires : goal.write_child-next-requires
 write_child-next-requires c =
-    let trees = c.requires.0 in
-    let v = child_start trees.tree c.requires.1 c.loop-end.invariant c.leaf_at-low.ensures c.loop-end-test.true c.leaf_at-a.ensures in (
-      omega (arith, c.requires.2, trees.same, c.loop-end.invariant.low, c.loop-end-test.true),
-      omega (arith, c.requires.2, trees.same, c.loop-end.invariant.low, v),
-      trees.few_g,
-      trees.few_h,
-      child_room trees.tree c.requires.1 c.loop-end.invariant c.leaf_at-low.ensures c.loop-end-test.true c.leaf_at-a.ensures,
-    )
+    let trees = c.requires.trees in
+    let v = child_start trees.tree c.requires.room c.loop-end.invariant c.leaf_at-low.ensures c.loop-end-test.true c.leaf_at-a.ensures in
+    record {
+      child = omega (arith, c.requires.node, trees.same, c.loop-end.invariant.low, c.loop-end-test.true);
+      start = omega (arith, c.requires.node, trees.same, c.loop-end.invariant.low, v);
+      few_g = trees.few_g;
+      few_h = trees.few_h;
+      room = child_room trees.tree c.requires.room c.loop-end.invariant c.leaf_at-low.ensures c.loop-end-test.true c.leaf_at-a.ensures;
+    }
 
 pub loop-end-preserved : goal.loop-end-preserved
-loop-end-preserved c = child_written c.requires.0.tree c.requires.1 c.loop-end.invariant c.leaf_at-low.ensures c.loop-end-test.true c.leaf_at-a.ensures c.write_child-next.ensures
+loop-end-preserved c = child_written c.requires.trees.tree c.requires.room c.loop-end.invariant c.leaf_at-low.ensures c.loop-end-test.true c.leaf_at-a.ensures c.write_child-next.ensures
 
 pub returns : goal.returns
-returns c = children_written c.requires.0.tree c.requires.1 c.loop-end.invariant c.leaf_at-low.ensures c.loop-end-test.false
+returns c = children_written c.requires.trees.tree c.requires.room c.loop-end.invariant c.leaf_at-low.ensures c.loop-end-test.false

@@ -3,4 +3,4 @@ use Rattle.best.proofs.Members.{lowest_off}
 use Rattle.best.proofs.keys.without_lowest.Goals as goal
 
 pub returns : goal.returns
-returns c = lowest_off _ _ c.requires.fact_2
+returns c = lowest_off _ _ c.requires.lowest

@@ -8,7 +8,7 @@ use Rattle.standing.proofs.Relating.{masks_are}
 use Rattle.standing.proofs.stands.masks_at.Goals as goal
 
 pub loop-rest-init : goal.loop-rest-init
-loop-rest-init c = rw c.bit-rest.ensures (omega arith, omega arith, omega (arith, pow-lt c.requires.fact_1), known_start _ _ _)
+loop-rest-init c = rw c.bit-rest.ensures (omega arith, omega arith, omega (arith, pow-lt c.requires.place), known_start _ _ _)
 
 pub loop-rest-smaller : goal.loop-rest-smaller
 loop-rest-smaller c =
@@ -21,11 +21,11 @@ loop-rest-preserved c =
       search rules,
       search rules,
       rw c.without-rest.ensures (minus_small _ _),
-      known_with _ _ _ _ _ _ _ c.requires.fact_2 c.loop-rest.invariant.3 (omega (arith, c.requires.fact_1)) _ there _ _ c.stands_to-stand.ensures (ap (λ (s : Pair). s ∷ []) c.last_in.ensures) c.with_seed-masks.ensures (rw c.bit.ensures at c.without-rest.ensures),
+      known_with _ _ _ _ _ _ _ c.requires.composed c.loop-rest.invariant.3 (omega (arith, c.requires.place)) _ there _ _ c.stands_to-stand.ensures (ap (λ (s : Pair). s ∷ []) c.last_in.ensures) c.with_seed-masks.ensures (rw c.bit.ensures at c.without-rest.ensures),
     )
 
 pub returns : goal.returns
 returns c =
     let inv = c.loop-rest.invariant in
-    let few : c.args.y ≤ 64 = omega (arith, c.requires.fact_1) in
+    let few : c.args.y ≤ 64 = omega (arith, c.requires.place) in
     masks_are _ _ _ _ _ (known_left inv.3 c.loop-rest-test.false few inv.0) (known_under inv.3 c.loop-rest-test.false few inv.1)

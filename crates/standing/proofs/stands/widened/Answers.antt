@@ -6,6 +6,6 @@ pub returns-then-on : goal.returns-then-on
 unfolding widened_by
 returns-then-on c = rw (c.if-on.true, c.bit.ensures)
 
-pub returns : goal.returns
+pub returns-else-on : goal.returns-else-on
 unfolding widened_by
-returns c = rw c.if-on.false
+returns-else-on c = rw c.if-on.false
