@@ -1,3 +1,4 @@
+pub mod Results
 pub mod BothRead
 pub mod Passing
 pub mod Dealing

@@ -9,11 +9,10 @@ use lib.ListN.{length, get_or, drop, drop_of_length-le}
 use lib.Seq.{drop-cons}
 use lib.IntN.{pos}
 use borrow.Author.Tests.{not-false}
-use Rattle.answer.specs.Answer.{unless}
-use Rattle.answer.specs.declared.Ground.{Ground}
-use Rattle.answer.specs.declared.Place.{Place}
-use Rattle.answer.specs.declared.Answer.{Answer}
-use Rattle.answer.specs.declared.Answer.TheVariants.{Accepted, Refused}
+use Rattle.std.specs.Prelude.{Ok, Err}
+use Rattle.answer.specs.Answer.{unless, Answer, Accepted}
+use Rattle.answer.specs.Refusal.{result_of}
+use Rattle.answer.specs.declared.Refusal.{Refusal}
 use Rattle.answer.proofs.Denied.{denies}
 use Rattle.answer.proofs.Given.{not_given, not_refused, unless_refused}
 use Rattle.tree.specs.Nested.{Nested}
@@ -27,6 +26,7 @@ use Rattle.table.specs.Table.{nodes_of, pairs_at, row_at, rows_of, Laid, Kept}
 use Rattle.table.specs.declared.Table.{Table}
 use Rattle.table.proofs.Tables.{rows_length, row_there, pairs_some}
 use Rattle.dealing.specs.Seeds.{seed_answer, seeds_answer}
+use Rattle.dealing.proofs.Results.{refused_by, accepted_by}
 
 -- The loop over the seeds: those passed are accepted.
 module _ (q t : Tree) (table : Table) where
@@ -40,11 +40,11 @@ module _ (q t : Tree) (table : Table) where
   pub seeds_start : Passed 0
   seeds_start = record { few = omega arith; rest = refl }
 
-  pub seeds_end : (i : ℕ) → table.seeds ≤ i → Passed i → Accepted ≡ seeds_answer q t 1 (rows_of table)
+  pub seeds_end : (i : ℕ) → table.seeds ≤ i → Passed i → Ok (tt {0}) ≡ result_of (seeds_answer q t 1 (rows_of table)) (tt {0})
   unfolding seeds_answer
   seeds_end i l w =
       let past : length rows ≤ i = omega (arith, rows_length table) in
-      sym (w.rest ∙ ap (seeds_answer q t (i + 1)) (drop_of_length-le rows past))
+      ap (λ (a : Answer). result_of a tt) (sym (w.rest ∙ ap (seeds_answer q t (i + 1)) (drop_of_length-le rows past)))
 
   -- One turn: the answer of the seed at place i, from its nodes and its score.
   module _ (i : ℕ) (l : i < table.seeds) (w : Passed i) {qs ts : List ℕ} (is_q : qs ≡ nodes_of table.qs table.bounds i) (is_t : ts ≡ nodes_of table.ts table.bounds i) {a : Answer} (e : a ≡ seed_answer q t (i + 1) (new_row (pairs_of qs ts) (get_or table.scores i (pos 0)))) where
@@ -62,11 +62,14 @@ module _ (q t : Tree) (table : Table) where
     unfolding seeds_answer
     by_seed = w.rest ∙ ap (seeds_answer q t (i + 1)) ahead ∙ ap (λ (x : Answer). unless x (seeds_answer q t (suc (i + 1)) (drop (i + 1) rows))) (sym of_row)
 
-    pub seeds_stop : {g : Ground} {p : Place} → a ≡ Refused g p → a ≡ seeds_answer q t 1 (rows_of table)
-    seeds_stop f = sym (by_seed ∙ unless_refused a _ (denies f))
+    pub seeds_stop : {r : Refusal} → result_of a (tt {0}) ≡ Err r → Err r ≡ result_of (seeds_answer q t 1 (rows_of table)) (tt {0})
+    seeds_stop f =
+        let refused = refused_by a tt f in
+        ap (λ (x : Answer). result_of x tt) (sym (by_seed ∙ unless_refused a _ (denies refused) ∙ refused))
 
-    pub seeds_next : a ≡ Accepted → Passed (i + 1)
-    seeds_next ok =
+    pub seeds_next : {u : Unit {0}} → result_of a (tt {0}) ≡ Ok u → Passed (i + 1)
+    seeds_next f =
+        let ok = accepted_by a tt f in
         record {
           few = omega arith;
           rest =

@@ -1,8 +1,8 @@
--- Two texts and a deck to two trees and rows (document 01, grounds 1 to 8, 11 and 15 to 19; document 02, b and c, grounds 24 and 25).
-use Rattle.std.specs.Prelude.{◌≡◌, List, [], ℕ}
-use Rattle.answer.specs.Answer.{unless}
-use Rattle.answer.specs.declared.Answer.{Answer}
-use Rattle.answer.specs.declared.Answer.TheVariants.{Accepted, Refused}
+-- Two texts and a deck to two trees and rows, by grounds 1 to 4 and 24, 5 to 8, and 11, 15, 25 and 16 to 19.
+use Rattle.std.specs.Prelude.{◌≡◌, Result, IfOk, List, [], ℕ}
+use Rattle.answer.specs.Answer.{unless, Answer, Accepted, Refused}
+use Rattle.answer.specs.Refusal.{answer_in}
+use Rattle.answer.specs.declared.Refusal.{Refusal}
 use Rattle.tree.specs.Reading.{tree_of, single}
 use Rattle.tree.specs.declared.Tree.{Tree}
 use Rattle.table.specs.Rows.{Row}
@@ -17,17 +17,6 @@ use Rattle.dealing.specs.declared.Dealt.{Dealt}
 -- A deck on two trees: its layout and its walk, by 5 to 8, before its seeds.
 unfoldable pub deck_answer : Tree → Tree → List ℕ → Answer
 deck_answer q t d = unless (deck_read_answer (deck.deck_reading d)) (seeds_answer q t 1 (rows_in (deck.deck_reading d)))
-
--- Its rows, and none beside a refusal.
-abbrev pub rows_if : Answer → List Row → List Row
-rows_if Accepted rows = rows
-rows_if (Refused g p) rows = []
-
--- What dealing a deck on two trees promises that answers so and hands over the table.
-pub record DealsOn (q t : Tree) (d : List ℕ) (answer : Answer) (table : Table) : Type 0 where
-  pub answers : answer ≡ deck_answer q t d
-  pub rows : rows_of table ≡ rows_if answer (rows_in (deck.deck_reading d))
-  pub kept : Kept q t table
 
 -- What two texts and a deck give: an answer, two trees and rows.
 pub record Deal : Type 0 where
@@ -53,14 +42,20 @@ deal_of q t d =
     deal_by (deal_answer q t d)
     (record { answer = Accepted; q = (both_read q t).q; t = (both_read q t).t; rows = rows_in (deck.deck_reading d) })
 
--- What is handed over is this, in a table that was kept.
-pub record AsDealt (o : Deal) (r : Dealt) : Type 0 where
-  pub answers : r.answer ≡ o.answer
-  pub tree_q : r.q ≡ o.q
-  pub tree_t : r.t ≡ o.t
-  pub rows : rows_of r.table ≡ o.rows
-  pub kept : Kept r.q r.t r.table
+-- What dealing a deck on two trees promises: its answer, and if it is accepted the deck's rows in a table that is kept.
+pub record DealsOn (q t : Tree) (d : List ℕ) (r : Result Table Refusal) : Type 0 where
+  pub answers : answer_in r ≡ deck_answer q t d
+  pub rows : IfOk r (λ table. rows_of table ≡ rows_in (deck.deck_reading d))
+  pub kept : IfOk r (λ table. Kept q t table)
+
+-- What is handed over is this, if it is accepted, in a table that is kept.
+pub record AsDealt (o : Deal) (r : Result Dealt Refusal) : Type 0 where
+  pub answers : answer_in r ≡ o.answer
+  pub tree_q : IfOk r (λ dealt. dealt.q ≡ o.q)
+  pub tree_t : IfOk r (λ dealt. dealt.t ≡ o.t)
+  pub rows : IfOk r (λ dealt. rows_of dealt.table ≡ o.rows)
+  pub kept : IfOk r (λ dealt. Kept dealt.q dealt.t dealt.table)
 
 -- What dealing two texts and a deck promises.
-abbrev pub Deals : List ℕ → List ℕ → List ℕ → Dealt → Type 0
+abbrev pub Deals : List ℕ → List ℕ → List ℕ → Result Dealt Refusal → Type 0
 Deals q t d r = AsDealt (deal_of q t d) r

@@ -1,4 +1,4 @@
--- What a reader believes, in document 01's order.
+-- What a reader believes.
 pub mod Texts
 pub mod Deal
 -- The same computed.

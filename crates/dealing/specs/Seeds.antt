@@ -1,10 +1,8 @@
--- The seeds of a deck judged one after another (document 01, grounds 11 and 15 to 19; document 02, c, ground 25).
+-- The seeds of a deck judged one after another, by grounds 11, 15, 25 and 16 to 19.
 use Rattle.std.specs.Prelude.{not, List, [], ◌∷◌, ℕ, suc}
-use Rattle.answer.specs.Answer.{given, unless}
+use Rattle.answer.specs.Answer.{given, unless, Answer, Accepted}
 use Rattle.answer.specs.declared.Ground.TheVariants.{ScoreRange}
 use Rattle.answer.specs.declared.Place.TheVariants.{Seed}
-use Rattle.answer.specs.declared.Answer.{Answer}
-use Rattle.answer.specs.declared.Answer.TheVariants.{Accepted}
 use Rattle.tree.specs.declared.Tree.{Tree}
 use Rattle.judge.specs.Judge.{judge_of}
 use Rattle.table.specs.Rows.{Row, in_range}

@@ -1,60 +1,38 @@
-// Two texts read, Q before T.
+//! Two texts read, Q before T.
 ghost use Rattle.std.specs.Prelude.{◌≡◌};
-ghost use Rattle.dealing.specs.Texts.{both_read, in_t};
+ghost use Rattle.answer.specs.Refusal.{result_of};
+ghost use Rattle.answer.specs.Answer.{Refused};
+ghost use Rattle.dealing.specs.Texts.{both_read, in_t, trees_of};
 
-use answer::{Answer, Place, refused};
-use tree::{Tree, read};
+use answer::{Place, Refusal};
+use tree::{RefusedText, Tree, read};
 
-// What is answered of two texts, and their trees: those of "." and "." beside a refusal.
+/// The trees of two texts.
 #[derive(Clone, Copy)]
 pub struct TwoTrees {
-    pub answer: Answer,
     pub q: Tree,
     pub t: Tree,
 }
 
-// The answer of a reading, whose text is T.
-fn in_t(answer: Answer) -> Answer
-    ensures { result ≡ in_t answer }
+// Why a text was refused, if that text is T: a reading names its text Q.
+fn in_t(refused: RefusedText) -> Refusal
+    ensures { Refused result.ground result.place ≡ in_t (Refused refused.refusal.ground refused.refusal.place) }
 {
-    match answer {
-        Answer::Accepted => answer,
-        Answer::Refused { ground, place } => match place {
-            Place::ByteInQ(k) => refused(ground, Place::ByteInT(k)),
-            _ => answer,
-        },
+    let refusal = refused.refusal;
+    match refusal.place {
+        Place::ByteInQ(byte) => refusal.ground.at(Place::ByteInT(byte)),
+        _ => refusal,
     }
 }
 
-pub fn read_both(q: &[u8], t: &[u8]) -> TwoTrees
-    ensures { result ≡ both_read q.now t.now }
+/// The trees of two texts, or the first refusal, of Q before T.
+pub fn read_both(q: &[u8], t: &[u8]) -> Result<TwoTrees, Refusal>
+    ensures { result ≡ result_of (both_read q.now t.now).answer (trees_of (both_read q.now t.now)) }
 {
-    let first = read(q);
-    let tree_q = first.tree;
-    let answer_q = first.answer;
-    match answer_q {
-        Answer::Accepted => {}
-        _ => {
-            return TwoTrees {
-                answer: answer_q,
-                q: tree_q,
-                t: tree_q,
-            };
-        }
-    }
-    let second = read(t);
-    let tree_t = second.tree;
-    let answer_t = second.answer;
-    match answer_t {
-        Answer::Accepted => TwoTrees {
-            answer: answer_t,
-            q: tree_q,
-            t: tree_t,
-        },
-        _ => TwoTrees {
-            answer: in_t(answer_t),
-            q: tree_t,
-            t: tree_t,
-        },
-    }
+    let tree_q = read(q)?;
+    let tree_t = read(t).map_err(in_t)?;
+    Ok(TwoTrees {
+        q: tree_q,
+        t: tree_t,
+    })
 }

@@ -1,4 +1,4 @@
-// Decks: seeds in bytes, read into a table.
+//! Decks: seeds in bytes, read into a table.
 #![tactic(auto)]
 
 mod bytes;
@@ -7,26 +7,17 @@ mod walk;
 
 ghost use Rattle.deck.specs.Handed.{Reads};
 
-use answer::{Answer, Ground, Place};
+use answer::{Ground, Place, Refusal};
 use layout::bad_layout;
-use table::{Table, empty};
-use walk::{stopped, walk};
+use table::Table;
+use walk::walk;
 
-// What reading answers, and the table of the seeds: without any where it is refused.
-#[derive(Clone, Copy)]
-pub struct DeckRead {
-    pub answer: Answer,
-    pub table: Table,
-}
-
-// The seeds of a deck, or the first refusal and no seeds.
-pub fn read(deck: &[u8]) -> DeckRead
+/// The seeds of a deck, all present, or the first refusal.
+pub fn read(deck: &[u8]) -> Result<Table, Refusal>
     ensures { Reads deck.now result }
 {
-    let blank = empty();
     if bad_layout(deck) {
-        return stopped(Ground::DeckLayout, Place::Nothing, blank);
+        return Err(Ground::DeckLayout.at(Place::Nothing));
     }
-    let marks = [false; 1025];
-    walk(deck, blank, marks)
+    walk(deck)
 }

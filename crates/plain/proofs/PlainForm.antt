@@ -6,7 +6,8 @@ use native.Mathlib.Nat.{add-zero}
 use native.Mathlib.Omega.{arith}
 use lib.ListN.{length, length-append}
 use lib.Seq.{sets}
-use Rattle.answer.specs.declared.Answer.TheVariants.{Accepted, Refused}
+use Rattle.std.specs.Prelude.{Ok, Err}
+use Rattle.answer.specs.Refusal.{refusal_at}
 use Rattle.answer.specs.declared.Ground.TheVariants.{OutputShort}
 use Rattle.answer.specs.declared.Place.TheVariants.{Nothing}
 use Rattle.seed.specs.declared.Pair.{Pair}
@@ -103,7 +104,7 @@ module _ (rows : List Row) (size : Size) (is : size ≡ size_of rows) where
   length_is : 4 + 6 * size.seeds + 4 * size.pairs ≡ length (plain_of rows)
   length_is = omega (arith, seeds_is, pairs_is, plain_length rows)
 
-  pub writes_none : (out : List ℕ) → length out < 4 + 6 * size.seeds + 4 * size.pairs → WritesPlain rows out out (record { answer = Refused OutputShort Nothing; length = 0 })
+  pub writes_none : (out : List ℕ) → length out < 4 + 6 * size.seeds + 4 * size.pairs → WritesPlain rows out out (Err (refusal_at OutputShort Nothing))
   writes_none out h = wrote_none (plain_of rows) out (omega (arith, length_is))
 
   one_piece : (out m1 m2 m3 : List ℕ) → m1 ≡ sets out 0 (counts size.seeds size.pairs) → m2 ≡ sets m1 4 (seed_part rows) → m3 ≡ sets m2 (4 + 6 * size.seeds) (pair_part (plain_pairs 1 (chains_of rows))) → m3 ≡ sets out 0 (plain_of rows)
@@ -112,5 +113,5 @@ module _ (rows : List Row) (size : Size) (is : size ≡ size_of rows) where
       sets_after out 0 (counts size.seeds size.pairs ++ seed_part rows) (pair_part (plain_pairs 1 (chains_of rows))) front c (omega (arith, seeds_is, front_length size.seeds size.pairs rows))
       ∙ ap (sets out 0) (ap₂ (λ (s k : ℕ). counts s k ++ seed_part rows ++ pair_part (plain_pairs 1 (chains_of rows))) seeds_is pairs_is ∙ sym (plain_parts rows))
 
-  pub writes_all : (out m1 m2 m3 : List ℕ) → 4 + 6 * size.seeds + 4 * size.pairs ≤ length out → m1 ≡ sets out 0 (counts size.seeds size.pairs) → m2 ≡ sets m1 4 (seed_part rows) → m3 ≡ sets m2 (4 + 6 * size.seeds) (pair_part (plain_pairs 1 (chains_of rows))) → WritesPlain rows out m3 (record { answer = Accepted; length = 4 + 6 * size.seeds + 4 * size.pairs })
+  pub writes_all : (out m1 m2 m3 : List ℕ) → 4 + 6 * size.seeds + 4 * size.pairs ≤ length out → m1 ≡ sets out 0 (counts size.seeds size.pairs) → m2 ≡ sets m1 4 (seed_part rows) → m3 ≡ sets m2 (4 + 6 * size.seeds) (pair_part (plain_pairs 1 (chains_of rows))) → WritesPlain rows out m3 (Ok (4 + 6 * size.seeds + 4 * size.pairs))
   writes_all out m1 m2 m3 h a b c = wrote_all (plain_of rows) out m3 _ length_is (omega (arith, length_is)) (one_piece out m1 m2 m3 a b c)

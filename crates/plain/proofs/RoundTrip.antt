@@ -8,6 +8,10 @@ use native.Mathlib.Omega.{arith}
 use lib.ListN.{length, get_or, take, length-map}
 use lib.IntN.{pos}
 use lib.Signed.{mag}
+use borrow.Author.Tests.{le-leb}
+use Rattle.std.specs.Prelude.{Result, Ok, Err, IsOkAnd}
+use Rattle.answer.specs.declared.Refusal.{Refusal}
+use Rattle.answer.proofs.Denied.{denies}
 use Rattle.seed.specs.Tab.{tab}
 use Rattle.table.specs.Rows.{Row, no_row, present_rows, pairs_of_row}
 use Rattle.table.specs.Table.{row_at, rows_of, Laid}
@@ -16,10 +20,9 @@ use Rattle.table.proofs.Tables.{rows_length, row_there, pairs_some}
 use Rattle.deck.specs.Deck.{Bytes, number32, SeedRecord, PairRecord, seed_record, seed_count, seed_records, pair_records, record_of, all_in, walks, settled, deck_reading, rows_by, chains_of}
 use Rattle.plain.specs.Plain.{deck_of_records, plain_pairs, plain_seeds, plain_of, All, RowInLimits, InLimits, WritesPlain}
 use Rattle.deck.specs.Deck.DeckReading.{deck_accepted}
-use Rattle.deck.specs.Handed.{rows_in, Reads}
+use Rattle.deck.specs.Handed.{deck_read_answer, rows_in, Reads}
 use Rattle.deck.specs.Grounds.{Ended}
-use Rattle.deck.specs.declared.DeckRead.{DeckRead}
-use Rattle.write.specs.declared.Written.{Written}
+use Rattle.write.specs.Wrote.{written_of}
 use Rattle.write.proofs.Wrote.{wrote_front}
 use Rattle.deck.proofs.Numbers.{number32_below, signed_small}
 use Rattle.deck.proofs.Counting.{all_reached}
@@ -84,13 +87,21 @@ pub read_again : (d : List ℕ) (rows : List Row) → Bytes d → deck_reading d
 read_again d rows b e = read_plain rows (accepted_limits d rows b e)
 
 -- What was read from a deck and is written is the deck's plain form.
-pub read_written : (d : List ℕ) (rows : List Row) (r : DeckRead) (before after : List ℕ) (w : Written) → deck_reading d ≡ deck_accepted rows → Reads d r → WritesPlain (present_rows (rows_of r.table)) before after w → WritesPlain rows before after w
-read_written d rows r before after w e s x =
-    subst (λ (l : List Row). WritesPlain l before after w) (ap present_rows s.rows ∙ reading_present d ∙ ap rows_in e) x
+pub read_written : (d : List ℕ) (rows : List Row) (r : Result Table Refusal) (before after : List ℕ) (w : Result ℕ Refusal) → deck_reading d ≡ deck_accepted rows → Reads d r → IsOkAnd r (λ table. WritesPlain (present_rows (rows_of table)) before after w → WritesPlain rows before after w)
+read_written d rows (Ok table) before after w e s =
+    λ x. subst (λ (l : List Row). WritesPlain l before after w) (ap present_rows s.rows ∙ reading_present d ∙ ap rows_in e) x
+read_written d rows (Err refusal) before after w e s = absurd (denies refl (s.answers ∙ ap deck_read_answer e))
+
+-- Written where there is room, rows within the limits read as they are.
+written_read : (rows : List Row) (before after : List ℕ) (w : Result ℕ Refusal) → deck_reading (plain_of rows) ≡ deck_accepted rows → length (plain_of rows) ≤ length before → WritesPlain rows before after w → IsOkAnd w (λ n. deck_reading (take n after) ≡ deck_accepted rows)
+unfolding written_of
+written_read rows before after (Ok n) e l x = ap deck_reading (wrote_front (plain_of rows) before after (Ok n) refl x) ∙ e
+written_read rows before after (Err refusal) e l x = let f = rw (le-leb _ _ l) at x.answers in absurd (cc)
 
 -- Read, written into an output that has room, and read again: the same seeds.
-pub read_write_read : (d : List ℕ) (rows : List Row) (r : DeckRead) (before after : List ℕ) (w : Written) → Bytes d → deck_reading d ≡ deck_accepted rows → Reads d r → length (plain_of rows) ≤ length before → WritesPlain (present_rows (rows_of r.table)) before after w → deck_reading (take w.length after) ≡ deck_accepted rows
-read_write_read d rows r before after w b e s l x = ap deck_reading (wrote_front (plain_of rows) before after w l (read_written d rows r before after w e s x)) ∙ read_again d rows b e
+pub read_write_read : (d : List ℕ) (rows : List Row) (r : Result Table Refusal) (before after : List ℕ) (w : Result ℕ Refusal) → Bytes d → deck_reading d ≡ deck_accepted rows → Reads d r → length (plain_of rows) ≤ length before → IsOkAnd r (λ table. WritesPlain (present_rows (rows_of table)) before after w → IsOkAnd w (λ n. deck_reading (take n after) ≡ deck_accepted rows))
+read_write_read d rows (Ok table) before after w b e s l = λ x. written_read rows before after w (read_again d rows b e) l (read_written d rows (Ok table) before after w e s x)
+read_write_read d rows (Err refusal) before after w b e s l = absurd (read_written d rows (Err refusal) before after w e s)
 
 -- The present rows of a filled table, with scores of 32 bits, are within the limits, so that what is written of them reads as them.
 present_each : (rows : List Row) → ((i : ℕ) → i < length rows → (0 < length (get_or rows i no_row).pairs) × (mag (get_or rows i no_row).score < 2147483648)) → All RowInLimits (present_rows rows)
@@ -112,5 +123,5 @@ module _ (t : Table) (h : Laid t) (small : (i : ℕ) → i < t.seeds → mag (ge
         each = present_each (rows_of t) (λ i l. let m : i < t.seeds = omega (arith, rows_length t) in rw (row_there t i m) (pairs_some t h i m, small i m));
       }
 
-  pub write_read : (before after : List ℕ) (w : Written) → length (plain_of (present_rows (rows_of t))) ≤ length before → WritesPlain (present_rows (rows_of t)) before after w → deck_reading (take w.length after) ≡ deck_accepted (present_rows (rows_of t))
-  write_read before after w l x = ap deck_reading (wrote_front (plain_of (present_rows (rows_of t))) before after w l x) ∙ read_plain (present_rows (rows_of t)) table_limits
+  pub write_read : (before after : List ℕ) (w : Result ℕ Refusal) → length (plain_of (present_rows (rows_of t))) ≤ length before → WritesPlain (present_rows (rows_of t)) before after w → IsOkAnd w (λ n. deck_reading (take n after) ≡ deck_accepted (present_rows (rows_of t)))
+  write_read before after w l x = written_read (present_rows (rows_of t)) before after w (read_plain (present_rows (rows_of t)) table_limits) l x

@@ -1,16 +1,14 @@
--- Scores in two's complement turn back, and the code works them out in 64 bits.
+-- Scores in two's complement turn back, and the bytes of numbers.
 use mathlib.Core.Path.{◌≡◌, refl, ap, ◌∙◌}
-use mathlib.Core.Bool.{true, false, true≢false}
-use Prim.Native.Nat.{suc, ◌-◌, ◌<◌}
+use mathlib.Core.List.{[], ◌∷◌}
+use Prim.Native.Nat.{ℕ, ◌-◌, ◌/◌, ◌%◌, ◌<◌}
 use native.Mathlib.Omega.{arith}
-use lib.IntN.{ℤ, pos, negsuc, ◌+ℤ◌}
-use lib.Signed.{mag, lt_z}
-use mir.Syntax.{w32, w64}
-use mir.Val.{Fits, SFits, to_z, of_z}
-use mir.Facts.{to_z-of_z, sfits_widen}
-use borrow.Author.Tests.{le-ltb, ltb-true}
+use lib.IntN.{ℤ, pos, negsuc}
+use lib.Signed.{mag}
+use mir.Syntax.{w16, w32}
+use Rattle.std.specs.Int.{to_be_bytes, cast_unsigned}
 use Rattle.deck.specs.Deck.{signed}
-use Rattle.plain.specs.Plain.{unsigned}
+use Rattle.plain.specs.Plain.{unsigned, bytes16, bytes32}
 use Rattle.deck.proofs.Numbers.{signed_low, signed_high}
 
 pub signed_unsigned : (z : ℤ) → mag z < 2147483648 → signed (unsigned z) ≡ z
@@ -23,28 +21,24 @@ unfolding unsigned
 unsigned_below (pos n) h = omega arith
 unsigned_below (negsuc n) h = omega arith
 
--- A score as the code widens it to 64 bits; below zero, all of the numbers of 32 bits are added.
-pub wide_score : {z : ℤ} → SFits w32 z → to_z w64 (of_z w64 (to_z w32 (of_z w32 z))) ≡ z
-wide_score f = ap (λ (x : ℤ). to_z w64 (of_z w64 x)) (to_z-of_z f) ∙ to_z-of_z {w = w64} (sfits_widen {w = w32} {w' = w64} tt f)
+-- What std makes of numbers is these bytes.
+pub be_bytes16 : (n : ℕ) → n < 65536 → to_be_bytes w16 n ≡ bytes16 n
+unfolding bytes16
+be_bytes16 n h = let high : n / 256 % 256 ≡ n / 256 = omega arith in λ j. high j ∷ n % 256 ∷ []
 
-lifted : (z : ℤ) → mag z < 2147483648 → lt_z z (pos 0) ≡ true → z +ℤ pos 4294967296 ≡ pos (unsigned z)
+be_bytes32 : (n : ℕ) → n < 4294967296 → to_be_bytes w32 n ≡ bytes32 n
+unfolding bytes32 bytes16
+be_bytes32 n h =
+    let a : n / 16777216 % 256 ≡ n / 65536 / 256 = omega arith in
+    let b : n / 65536 % 256 ≡ n / 65536 % 256 = refl in
+    let c : n / 256 % 256 ≡ n % 65536 / 256 = omega arith in
+    let d : n % 256 ≡ n % 65536 % 256 = omega arith in
+    λ j. a j ∷ b j ∷ c j ∷ d j ∷ []
+
+bits : (z : ℤ) → mag z < 2147483648 → cast_unsigned w32 z ≡ unsigned z
 unfolding unsigned
-lifted (pos n) h e = absurd (omega (arith, ltb-true n 0 e))
-lifted (negsuc n) h e = rw (le-ltb 4294967296 (suc n) (omega arith)) (ap pos (omega arith))
+bits (pos n) h = refl
+bits (negsuc n) h = omega arith
 
-pub below_zero : {z : ℤ} → SFits w32 z → lt_z (to_z w64 (of_z w64 (to_z w32 (of_z w32 z)))) (pos 0) ≡ true → to_z w64 (of_z w64 (to_z w32 (of_z w32 z))) +ℤ pos 4294967296 ≡ pos (unsigned z)
-below_zero {z} f e = ap (λ (x : ℤ). x +ℤ pos 4294967296) (wide_score f) ∙ lifted z f.sfits (rw (wide_score f) at e)
-
-pub unsigned_fits : {z : ℤ} → SFits w32 z → SFits w64 (pos (unsigned z))
-unsigned_fits {z} f = record { sfits = omega (arith, unsigned_below z f.sfits) }
-
-pub unsigned_room : {z : ℤ} → SFits w32 z → Fits w64 (unsigned z)
-unsigned_room {z} f = record { fits = omega (arith, unsigned_below z f.sfits) }
-
-from_zero : (z : ℤ) → lt_z z (pos 0) ≡ false → z ≡ pos (unsigned z)
-unfolding unsigned
-from_zero (pos n) e = refl
-from_zero (negsuc n) e = absurd (true≢false e)
-
-pub not_below : {z : ℤ} → SFits w32 z → lt_z (to_z w64 (of_z w64 (to_z w32 (of_z w32 z)))) (pos 0) ≡ false → to_z w64 (of_z w64 (to_z w32 (of_z w32 z))) ≡ pos (unsigned z)
-not_below {z} f e = wide_score f ∙ from_zero z (rw (wide_score f) at e)
+pub be_score : (z : ℤ) → mag z < 2147483648 → to_be_bytes w32 (cast_unsigned w32 z) ≡ bytes32 (unsigned z)
+be_score z h = ap (to_be_bytes w32) (bits z h) ∙ be_bytes32 (unsigned z) (unsigned_below z h)

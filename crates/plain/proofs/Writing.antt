@@ -1,14 +1,17 @@
 -- Bytes written one part after another are the parts in one, and the plain form is made of such parts.
 use mathlib.Core.Path.{◌≡◌, refl, sym, ap, ◌∙◌}
 use mathlib.Core.Bool.{Bool, true, false, cond}
-use mathlib.Core.List.{List, [], ◌∷◌, ◌++◌, map, flatten}
-use Prim.Native.Nat.{ℕ, zero, suc, ◌+◌, ◌*◌, ◌/◌, ◌%◌, ◌≤◌, ◌<◌}
+use mathlib.Core.List.{List, [], ◌∷◌, ◌++◌, map, flatten, append_assoc}
+use Prim.Native.Nat.{ℕ, zero, suc, ◌+◌, ◌*◌, ◌≤◌, ◌<◌}
 use native.Mathlib.Numerals.{add-one}
 use native.Mathlib.Omega.{arith}
-use lib.ListN.{length, get_or, take, length-append}
-use lib.Seq.{sets, length-sets, length-take-le, take-suc, take_all}
+use lib.ListN.{length, get_or, take, drop}
+use lib.Seq.{sets, sets-eq, length-sets, length-take-le, take-suc, take_all}
 use lib.Dec.{ltb}
 use lib.IntN.{ℤ}
+use borrow.Rule.Slice.PartMut.{put_mid}
+use Rattle.std.proofs.lemmas.List.Edits.{paste_all}
+use Rattle.std.proofs.lemmas.Slice.{put_mid-paste}
 use Rattle.seed.specs.Pairs.{pair_of, pairs_of}
 use Rattle.seed.specs.declared.Pair.{Pair}
 use Rattle.deck.specs.Deck.{PairRecord}
@@ -19,18 +22,25 @@ use Rattle.seed.proofs.Tabs.{length_tab, get_d_tab}
 use Rattle.write.proofs.Sets.{sets_after}
 use Rattle.deck.proofs.Lists.{map_append, flatten_append, flatten_more}
 
--- A seed record, written as three numbers of 16 bits.
-bytes16_length : (n : ℕ) → length (bytes16 n) ≡ 2
+-- Bytes copied to a part of the output are stored there one after another.
+pub copied : (l ys zs : List ℕ) (at k : ℕ) → ys ≡ zs → length zs ≡ k → at + length zs ≤ length l → put_mid at k l ys ≡ sets l at zs
+copied l ys zs at k e n h =
+    put_mid-paste at k l ys zs (length zs) e n refl
+    ∙ paste_all l at zs (length zs) refl
+    ∙ sym (sets-eq zs l at h ∙ append_assoc (take at l) zs (drop (at + length zs) l))
+
+pub bytes16_length : (n : ℕ) → length (bytes16 n) ≡ 2
 unfolding bytes16
 bytes16_length n = refl
 
-pub seed_put : (l : List ℕ) (at : ℕ) (z : ℤ) (first n : ℕ) {m1 m2 m3 : List ℕ} → n ≡ unsigned z → m1 ≡ sets l at (bytes16 (n / 65536)) → m2 ≡ sets m1 (at + 2) (bytes16 (n % 65536)) → m3 ≡ sets m2 (at + 4) (bytes16 first) → m3 ≡ sets l at (seed_bytes (record { score = z; first = first }))
-unfolding seed_bytes bytes32
-seed_put l at z first n e a b c =
-    let half = sets_after l at (bytes16 (n / 65536)) (bytes16 (n % 65536)) a b (omega (arith, bytes16_length (n / 65536))) in
-    let size = length-append (bytes16 (n / 65536)) (bytes16 (n % 65536)) in
-    sets_after l at (bytes16 (n / 65536) ++ bytes16 (n % 65536)) (bytes16 first) half c (omega (arith, size, bytes16_length (n / 65536), bytes16_length (n % 65536)))
-    ∙ rw e
+-- A seed record, written as its score and a number of 16 bits.
+pub bytes32_length : (n : ℕ) → length (bytes32 n) ≡ 4
+unfolding bytes32 bytes16
+bytes32_length n = refl
+
+pub seed_put : (l : List ℕ) (at : ℕ) (z : ℤ) (first : ℕ) {m1 m2 : List ℕ} → m1 ≡ sets l at (bytes32 (unsigned z)) → m2 ≡ sets m1 (at + 4) (bytes16 first) → m2 ≡ sets l at (seed_bytes (record { score = z; first = first }))
+unfolding seed_bytes
+seed_put l at z first a b = sets_after l at (bytes32 (unsigned z)) (bytes16 first) a b (omega (arith, bytes32_length (unsigned z)))
 
 -- The bytes of records.
 pub pair_part_append : (xs ys : List PairRecord) → pair_part (xs ++ ys) ≡ pair_part xs ++ pair_part ys

@@ -1,9 +1,9 @@
--- The plain form (document 01, "The deck"): the bytes of present seeds, and what writing them promises.
-use Rattle.std.specs.Prelude.{◌≡◌, true, cond, ℕ, ◌+◌, ◌-◌, ◌/◌, ◌%◌, ◌≤◌, ◌<◌, length, get_or, ℤ, pos, negsuc, ltb}
+-- The plain form of a deck: the bytes of present seeds, and what writing them promises.
+use Rattle.std.specs.Prelude.{◌≡◌, Result, true, cond, ℕ, ◌+◌, ◌-◌, ◌/◌, ◌%◌, ◌≤◌, ◌<◌, length, get_or, ℤ, pos, negsuc, ltb}
 use mathlib.Core.List.{List, [], ◌∷◌, ◌++◌, map, flatten}
 use Rattle.std.specs.Int.Signed.{mag}
+use Rattle.answer.specs.declared.Refusal.{Refusal}
 use Rattle.write.specs.Wrote.{Wrote}
-use Rattle.write.specs.declared.Written.{Written}
 use Rattle.seed.specs.Tab.{tab}
 use Rattle.seed.specs.Pairs.{pair_of}
 use Rattle.seed.specs.declared.Pair.{Pair}
@@ -47,8 +47,8 @@ plain_seeds k (r ∷ rs) = record { score = r.score; first = k } ∷ plain_seeds
 unfoldable pub plain_of : List Row → List ℕ
 plain_of rows = deck_of_records (plain_seeds 1 rows) (plain_pairs 1 (chains_of rows))
 
--- What writing the deck of these rows promises, of its answer and of the output before and after.
-abbrev pub WritesPlain : List Row → List ℕ → List ℕ → Written → Type 0
+-- What writing the deck of these rows promises, of its result and of the output before and after.
+abbrev pub WritesPlain : List Row → List ℕ → List ℕ → Result ℕ Refusal → Type 0
 WritesPlain rows before after r = Wrote (plain_of rows) before after r
 
 -- Each of the list has P.

@@ -1,4 +1,4 @@
-// The deck of present seeds, written in plain form.
+//! The deck of present seeds, written in plain form.
 #![tactic(auto)]
 
 mod parts;
@@ -9,15 +9,14 @@ ghost use Rattle.table.specs.Rows.{present_rows};
 ghost use Rattle.table.specs.Table.{rows_of, Laid};
 ghost use Rattle.plain.specs.Plain.{WritesPlain};
 
-use answer::{Answer, Ground, Place, refused};
+use answer::{Ground, Place, Refusal};
 use parts::{put_pairs, put_seeds};
 use records::put_counts;
 use size::size_of;
 use table::Table;
-use write::Written;
 
-// Writes the present seeds in plain form, and answers how many bytes that is.
-pub fn write(table: Table, out: &mut [u8]) -> Written
+/// Writes the present seeds in plain form, and answers how many bytes that is.
+pub fn write(table: Table, out: &mut [u8]) -> Result<usize, Refusal>
     requires { Laid table }
     ensures { WritesPlain (present_rows (rows_of table)) out.old out.new result }
 {
@@ -25,16 +24,10 @@ pub fn write(table: Table, out: &mut [u8]) -> Written
     let start = 4 + 6 * size.seeds;
     let length = start + 4 * size.pairs;
     if out.len() < length {
-        return Written {
-            answer: refused(Ground::OutputShort, Place::Nothing),
-            length: 0,
-        };
+        return Err(Ground::OutputShort.at(Place::Nothing));
     }
     put_counts(out, size);
     put_seeds(out, table);
     put_pairs(out, start, table);
-    Written {
-        answer: Answer::Accepted,
-        length,
-    }
+    Ok(length)
 }

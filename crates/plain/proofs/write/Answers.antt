@@ -25,10 +25,10 @@ pub overflow_add-length : goal.overflow_add-length
 overflow_add-length c = omega (arith, few _ c.requires c.size_of-size.ensures)
 
 pub returns-then-out-length : goal.returns-then-out-length
-returns-then-out-length c = rw c.refused.ensures (writes_none _ _ c.size_of-size.ensures _ c.if-out-length.true)
+returns-then-out-length c = rw c.at.ensures (writes_none _ _ c.size_of-size.ensures _ c.if-out-length.true)
 
 pub put_counts-requires : goal.put_counts-requires
-put_counts-requires c = let n = few _ c.requires c.size_of-size.ensures in (n.0, n.1, omega (arith, c.if-out-length.false))
+put_counts-requires c = let n = few _ c.requires c.size_of-size.ensures in record { seeds = n.0; pairs = n.1; room = omega (arith, c.if-out-length.false) }
 
 pub returns : goal.returns
 returns c = writes_all _ _ c.size_of-size.ensures _ _ _ _ c.if-out-length.false c.put_counts.ensures c.put_seeds.ensures c.put_pairs.ensures

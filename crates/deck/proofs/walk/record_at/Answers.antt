@@ -5,5 +5,5 @@ use Rattle.deck.proofs.walk.record_at.Goals as goal
 pub returns : goal.returns
 unfolding pair_record
 returns c =
-    let k = c.requires.fact_2 in
-    rw (record_at_lem c.args.deck.now c.args.k k.1 k.2, c.number.ensures, k.0)
+    let k = c.requires.index in
+    rw (record_at_lem c.args.deck.now c.args.k k.0 k.1, c.number.ensures, c.requires.seed_count)

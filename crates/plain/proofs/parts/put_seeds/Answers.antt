@@ -7,6 +7,7 @@ use Rattle.plain.specs.Plain.{plain_seeds}
 use Rattle.plain.specs.inner.Writing.{seed_part}
 use Rattle.plain.proofs.Turns.{seeding_all, seeding_same, seeding_room, seeding_few, seeding_more}
 use Rattle.plain.proofs.parts.put_seeds.Goals as goal
+use Rattle.plain.proofs.parts.put_seeds.Goals.{then-table-i, else-table-i}
 
 pub loop-i-init : goal.loop-i-init
 unfolding present_rows tab flatten seed_part plain_seeds
@@ -17,23 +18,24 @@ put_seed-requires c =
     let h = c.requires in
     let w = c.loop-i.invariant in
     let l = c.loop-i-test.true in
-    let e = c.if-table-seed.true in
-    (omega (arith, seeding_few _ h.0 w l e), seeding_room _ h.0 w l e h.1)
+    let e = c.if-table-i.true in
+    record { first_fits = omega (arith, seeding_few _ h.laid w l e); room = seeding_room _ h.laid w l e h.room }
 
 pub overflow_add-at : goal.overflow_add-at
-overflow_add-at c = omega (arith, seeding_room _ c.requires.0 c.loop-i.invariant c.loop-i-test.true c.if-table-seed.true c.requires.1)
+overflow_add-at c = omega (arith, seeding_room _ c.requires.laid c.loop-i.invariant c.loop-i-test.true c.if-table-i.true c.requires.room)
 
 pub overflow_add-k : goal.overflow_add-k
-overflow_add-k c = omega (arith, seeding_few _ c.requires.0 c.loop-i.invariant c.loop-i-test.true c.if-table-seed.true, ap length c.nodes_of-part.ensures)
+overflow_add-k c = omega (arith, seeding_few _ c.requires.laid c.loop-i.invariant c.loop-i-test.true c.if-table-i.true, ap length c.nodes_of-part.ensures)
 
 -- A score is read from its bits.
-pub loop-i-preserved-then-table-seed : goal.loop-i-preserved-then-table-seed
-loop-i-preserved-then-table-seed c =
-    let z : to_z w32 (of_z w32 (get_or c.args.table.scores c.loop-i.i (pos 0))) ≡ get_or c.args.table.scores c.loop-i.i (pos 0) = search rules in
-    seeding_more _ c.requires.0 c.loop-i.invariant c.loop-i-test.true c.if-table-seed.true _ _ _ z (ap length c.nodes_of-part.ensures) c.put_seed.ensures
-
 pub loop-i-preserved : goal.loop-i-preserved
-loop-i-preserved c = seeding_same _ c.requires.0 c.loop-i.invariant c.loop-i-test.true c.if-table-seed.false
+loop-i-preserved c =
+    elim c.if-table-i.branch [
+      | then-table-i w ↦
+          let z : to_z w32 (of_z w32 (get_or c.args.table.scores c.loop-i.i (pos 0))) ≡ get_or c.args.table.scores c.loop-i.i (pos 0) = search rules in
+          rw (w.out-is, w.at-is, w.k-is) (seeding_more _ c.requires.laid c.loop-i.invariant c.loop-i-test.true w.if-table-i.true _ _ _ z (ap length w.nodes_of-part.ensures) w.put_seed.ensures)
+      | else-table-i w ↦ rw (w.out-is, w.at-is, w.k-is) (seeding_same _ c.requires.laid c.loop-i.invariant c.loop-i-test.true w.if-table-i.false)
+    ]
 
 pub returns : goal.returns
 returns c = seeding_all _ c.loop-i.invariant c.loop-i-test.false

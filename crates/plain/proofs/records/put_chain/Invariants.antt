@@ -1,4 +1,4 @@
-use Rattle.std.proofs.Common.{◌≡◌, ◌≤◌, ◌-◌, take}
+use Rattle.std.proofs.Common.{◌≡◌, take}
 use Rattle.std.proofs.lemmas.List.Edits.{sets}
 use Rattle.seed.specs.Pairs.{pairs_of}
 use Rattle.plain.specs.Plain.{plain_chain}
@@ -7,7 +7,4 @@ use Rattle.plain.proofs.records.put_chain.Given as goal
 
 -- The records passed are written.
 abbrev pub invariant-loop-j : goal.invariant-loop-j
-invariant-loop-j l = (l.j ≤ l.n) × (l.out ≡ sets l.fn.out l.at (pair_part (take l.j (plain_chain l.k (pairs_of l.qs l.ts)))))
-
-abbrev pub decreases-loop-j : goal.decreases-loop-j
-decreases-loop-j l = l.n - l.j
+invariant-loop-j l = l.out ≡ sets l.fn.out l.at (pair_part (take l.j (plain_chain l.k (pairs_of l.qs l.ts))))
