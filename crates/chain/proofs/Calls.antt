@@ -1,17 +1,16 @@
 -- A session after an opening, and after a rescoring, a withdrawal, a bringing back or an add that was accepted or refused.
 use mathlib.Core.Path.{◌≡◌, refl, sym, ap, ◌∙◌}
 use mathlib.Core.Bool.{Bool}
-use mathlib.Core.List.{List, [], ◌∷◌, ◌++◌}
-use Prim.Native.Nat.{ℕ, ◌-◌, ◌<◌}
+use mathlib.Core.List.{List, [], ◌∷◌}
+use Rattle.std.specs.Prelude.{Ok, Err}
+use Prim.Native.Nat.{ℕ, ◌+◌, ◌-◌, ◌<◌}
 use native.Mathlib.Omega.{arith}
 use lib.ListN.{length, set, length-append}
 use lib.IntN.{ℤ}
-use Rattle.answer.specs.Answer.{unless}
+use Rattle.answer.specs.Answer.{unless, Answer, Accepted, Refused}
 use Rattle.answer.specs.declared.Ground.{Ground}
 use Rattle.answer.specs.declared.Place.{Place}
-use Rattle.answer.specs.declared.Answer.{Answer}
-use Rattle.answer.specs.declared.Answer.TheVariants.{Accepted, Refused}
-use Rattle.answer.proofs.Given.{not_refused}
+use Rattle.answer.specs.declared.Refusal.{Refusal}
 use Rattle.tree.specs.declared.Tree.{Tree}
 use Rattle.seed.specs.declared.Pair.{Pair}
 use Rattle.table.specs.Rows.{Row, new_row, row_in, row_of, with_row, with_score, with_presence}
@@ -19,20 +18,23 @@ use Rattle.table.specs.Table.{rows_of, Kept, HasRows}
 use Rattle.table.specs.declared.Table.{Table}
 use Rattle.table.proofs.Tables.{rows_length}
 use Rattle.table.proofs.Held.{kept_set}
-use Rattle.adding.specs.Adding.{Grows}
+use Rattle.adding.specs.Adding.{next_answer, Grows}
 use Rattle.chain.specs.Opening.{start_with}
 use Rattle.chain.specs.State.{changed, count_answer}
-use Rattle.chain.specs.Acts.{Act, add, rescore, moving, move_answer, rescore_answer, grounds, after, step, number_given}
+use Rattle.chain.specs.Acts.{Act, add, rescore, moving, move_answer, rescore_answer, grounds, after, step}
 use Rattle.chain.specs.View.{view, Sound, Does}
 use Rattle.chain.specs.declared.Session.{Session}
 use Rattle.chain.proofs.Judges.{by_moving, after_moving, Rescorable, rescorable, Movable, movable, count_room}
 
 -- The session of an opening, whose seeds count as adds.
-abbrev pub opened : Tree → Tree → Table → Session
-opened q t table = record { q = q; t = t; table = table; changes = table.seeds }
+abbrev pub session_of : Tree → Tree → Table → Session
+session_of q t table = record { q = q; t = t; table = table; changes = table.seeds }
 
-pub session_opened : (q t : Tree) (table : Table) → Kept q t table → (view (opened q t table) ≡ start_with q t (rows_of table)) × Sound (opened q t table)
-session_opened q t table h = (rw (rows_length table), record { kept = h; few = omega (arith, h.laid.few) })
+pub opened_state : (q t : Tree) (table : Table) → view (session_of q t table) ≡ start_with q t (rows_of table)
+opened_state q t table = rw (rows_length table)
+
+pub opened_sound : (q t : Tree) (table : Table) → Kept q t table → Sound (session_of q t table)
+opened_sound q t table h = record { kept = h; few = omega (arith, h.laid.few) }
 
 -- What a call does, by its answer.
 does_refused : (s : Session) (act : Act) (a : Answer) (g : Ground) (p : Place) → Sound s → a ≡ grounds (view s) act → a ≡ Refused g p → Does s act a s
@@ -60,15 +62,12 @@ module _ (s : Session) (k : ℕ) (z : ℤ) (h : Sound s) {a : Answer} (e : a ≡
     row_scored = with_score (row_in (rows_of s.table) (k - 1)) z
 
     module _ {next : Table} (n : HasRows (set (rows_of s.table) (k - 1) (with_score (row_in (rows_of s.table) (k - 1)) z)) next) where
-      pub score_room : (Kept s.q s.t next) × (s.changes < 1000000)
-      score_room = (
-        kept_set s.q s.t s.table next (k - 1) row_scored h.kept n (λ l. record { seed = (h.kept.each (k - 1) l).seed; ranged = score_known.ranged }),
-        score_known.room,
-      )
+      pub score_kept : Kept s.q s.t next
+      score_kept = kept_set s.q s.t s.table next (k - 1) row_scored h.kept n (λ l. record { seed = (h.kept.each (k - 1) l).seed; ranged = score_known.ranged })
 
-      pub rescores : {r : Session} → (view r ≡ changed (view s) (rows_of next)) × Sound r → Does s (rescore k z) a r
+      pub rescores : {r : Session} → view r ≡ changed (view s) (rows_of next) → Sound r → Does s (rescore k z) a r
       unfolding with_row row_of
-      rescores {r} w = does_accepted s r (rescore k z) a is_rescore ok (w.0 ∙ ap (changed (view s)) n.is) w.1
+      rescores {r} v w = does_accepted s r (rescore k z) a is_rescore ok (v ∙ ap (changed (view s)) n.is) w
 
 -- Another presence for number k.
 module _ (s : Session) (k : ℕ) (to : Bool) (h : Sound s) {a : Answer} (e : a ≡ move_answer (view s) k to) where
@@ -83,42 +82,39 @@ module _ (s : Session) (k : ℕ) (to : Bool) (h : Sound s) {a : Answer} (e : a �
     row_moved = with_presence (row_in (rows_of s.table) (k - 1)) to
 
     module _ {next : Table} (n : HasRows (set (rows_of s.table) (k - 1) (with_presence (row_in (rows_of s.table) (k - 1)) to)) next) where
-      pub move_room : (Kept s.q s.t next) × (s.changes < 1000000)
-      move_room = (
-        kept_set s.q s.t s.table next (k - 1) row_moved h.kept n (λ l. record { seed = (h.kept.each (k - 1) l).seed; ranged = (h.kept.each (k - 1) l).ranged }),
-        move_known.room,
-      )
+      pub move_kept : Kept s.q s.t next
+      move_kept = kept_set s.q s.t s.table next (k - 1) row_moved h.kept n (λ l. record { seed = (h.kept.each (k - 1) l).seed; ranged = (h.kept.each (k - 1) l).ranged })
 
       rows_moved : rows_of next ≡ with_row (rows_of s.table) k (with_presence (row_of (rows_of s.table) k) to)
       unfolding with_row row_of
       rows_moved = n.is
 
-      pub moves : {r : Session} → (view r ≡ changed (view s) (rows_of next)) × Sound r → Does s (moving k to) a r
-      moves {r} w =
+      pub moves : {r : Session} → view r ≡ changed (view s) (rows_of next) → Sound r → Does s (moving k to) a r
+      moves {r} v w =
           does_accepted s r (moving k to) a (e ∙ by_moving (view s) k to) ok
-          (w.0 ∙ ap (changed (view s)) rows_moved ∙ after_moving (view s) k to) w.1
+          (v ∙ ap (changed (view s)) rows_moved ∙ after_moving (view s) k to) w
 
 -- One seed more.
-module _ (s : Session) (ps : List Pair) (z : ℤ) (h : Sound s) {b : Answer} {next : Table} (g : Grows s.q s.t s.table ps z b next) {a : Answer} (e : a ≡ unless b (count_answer s.changes)) where
-  is_add : a ≡ grounds (view s) (add ps z)
+module _ (s : Session) (ps : List Pair) (z : ℤ) (h : Sound s) where
+  -- What the grounds of the list and then ground 20 answer is what an add answers.
+  is_add : {b : Answer} → b ≡ next_answer s.q s.t (rows_of s.table) ps z → unless b (count_answer s.changes) ≡ grounds (view s) (add ps z)
   unfolding grounds
-  is_add = e ∙ ap (λ (x : Answer). unless x (count_answer s.changes)) g.answers
+  is_add e = ap (λ (x : Answer). unless x (count_answer s.changes)) e
 
-  pub adds_not : {x : Ground} {p : Place} → a ≡ Refused x p → Does s (add ps z) a s
-  adds_not {x} {p} f = does_refused s (add ps z) a x p h is_add f
+  -- Refused by the list's grounds, and by ground 20.
+  pub adds_not : {e : Refusal} → Grows s.q s.t s.table ps z (Err e) → Does s (add ps z) (Refused e.ground e.place) s
+  adds_not {e} g = does_refused s (add ps z) (Refused e.ground e.place) e.ground e.place h (is_add g.answers) refl
 
-  module _ (ok : a ≡ Accepted) where
-    judged : (b ≡ Accepted) × (count_answer s.changes ≡ Accepted)
-    judged = not_refused b (count_answer s.changes) (sym e ∙ ok)
+  module _ {next : Table} (g : Grows s.q s.t s.table ps z (Ok next)) where
+    pub adds_no_more : {e : Refusal} → Refused e.ground e.place ≡ count_answer s.changes → Does s (add ps z) (Refused e.ground e.place) s
+    adds_no_more {e} f = does_refused s (add ps z) (Refused e.ground e.place) e.ground e.place h (f ∙ is_add g.answers) refl
 
-    pub add_room : (Kept s.q s.t next) × (s.changes < 1000000)
-    add_room = (g.kept, count_room s.changes judged.1)
+    module _ (ok : Accepted ≡ count_answer s.changes) where
+      pub add_room : s.changes < 1000000
+      add_room = count_room s.changes (sym ok)
 
-    rows : rows_of next ≡ rows_of s.table ++ new_row ps z ∷ []
-    rows = g.accepted judged.0
+      pub adds : {r : Session} → view r ≡ changed (view s) (rows_of next) → Sound r → Does s (add ps z) Accepted r
+      adds {r} v w = does_accepted s r (add ps z) Accepted (ok ∙ is_add g.answers) refl (v ∙ ap (changed (view s)) g.accepted) w
 
-    pub adds : {r : Session} → (view r ≡ changed (view s) (rows_of next)) × Sound r → Does s (add ps z) a r × (next.seeds ≡ number_given (view s) a)
-    adds {r} w = (
-      does_accepted s r (add ps z) a is_add ok (w.0 ∙ ap (changed (view s)) rows) w.1,
-      sym (rows_length next) ∙ ap length rows ∙ length-append (rows_of s.table) (new_row ps z ∷ []) ∙ ap (number_given (view s)) (sym ok),
-    )
+      pub added_number : next.seeds ≡ length (view s).rows + 1
+      added_number = sym (rows_length next) ∙ ap length g.accepted ∙ length-append (rows_of s.table) (new_row ps z ∷ [])

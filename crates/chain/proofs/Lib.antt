@@ -1,3 +1,4 @@
 pub mod Judges
+pub mod Openings
 pub mod Calls
 pub mod Looks

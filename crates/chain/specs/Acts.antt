@@ -1,11 +1,9 @@
--- The calls on a session (document 01) with their arguments: what each answers, by its grounds in order, and what it makes of the state.
+-- The calls on a session with their arguments: what each answers, by its grounds in order, and what it makes of the state.
 use Rattle.std.specs.Prelude.{Bool, true, false, not, List, [], ◌∷◌, ◌++◌, ℕ, ◌+◌, ◌*◌, length, ℤ, ltb}
 use Rattle.std.specs.Bool.{beq}
-use Rattle.answer.specs.Answer.{given, unless, decide}
+use Rattle.answer.specs.Answer.{given, unless, decide, Answer, Accepted}
 use Rattle.answer.specs.declared.Ground.TheVariants.{NumberNotGiven, PresenceAsAsked, ScoreRange, ScratchShort, OutputShort}
 use Rattle.answer.specs.declared.Place.TheVariants.{Seed, Nothing}
-use Rattle.answer.specs.declared.Answer.{Answer}
-use Rattle.answer.specs.declared.Answer.TheVariants.{Accepted}
 use Rattle.tree.specs.Reading.{leaves_of}
 use Rattle.seed.specs.Area.{Box}
 use Rattle.seed.specs.AreaList.{areas}
@@ -80,10 +78,6 @@ after (show_row k) s = s
 -- What a call that answers so leaves: a refused one the state as it was.
 abbrev pub step : State → Act → Answer → State
 step s act answer = decide answer (after act s) s
-
--- The add answers the seed's number, and 0 beside a refusal.
-abbrev pub number_given : State → Answer → ℕ
-number_given s answer = decide answer (length s.rows + 1) 0
 
 -- For inner functions: withdrawing and bringing back, by what the seed is to be.
 abbrev pub moving : ℕ → Bool → Act

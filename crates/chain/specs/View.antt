@@ -1,7 +1,6 @@
 -- The state that a session stands for, what every session that is handed over has, and what a call promises of it.
 use Rattle.std.specs.Prelude.{◌≡◌, ◌≤◌}
-use Rattle.answer.specs.declared.Answer.{Answer}
-use Rattle.answer.specs.declared.Answer.TheVariants.{Accepted}
+use Rattle.answer.specs.Answer.{Answer, Accepted}
 use Rattle.table.specs.Table.{rows_of, Kept}
 use Rattle.chain.specs.State.{State}
 use Rattle.chain.specs.Acts.{Act, grounds, step}

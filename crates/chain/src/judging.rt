@@ -1,78 +1,66 @@
-// The grounds that look at seed numbers, presence and the change count.
+//! The grounds that look at seed numbers, presence and the change count.
 ghost use Rattle.std.specs.Prelude.{◌≡◌};
-ghost use Rattle.std.specs.Bool.{beq};
-ghost use Rattle.answer.specs.Answer.{unless};
+ghost use Rattle.answer.specs.Answer.{Accepted};
+ghost use Rattle.answer.specs.Refusal.{answer_in};
 ghost use Rattle.table.specs.Rows.{given_out};
 ghost use Rattle.chain.specs.State.{count_answer};
-ghost use Rattle.chain.specs.Acts.{move_answer, rescore_answer};
+ghost use Rattle.chain.specs.Acts.{of_number, move_answer, rescore_answer};
 ghost use Rattle.chain.specs.View.{view, Sound};
 
 use super::Session;
-use answer::{Answer, Ground, Place, refused};
+use answer::{Ground, Place, Refusal};
 use table::{in_range, summary_at};
 
 // Whether the number is one of 1 to seeds.
 #[tactic(auto, unfolding(table::specs::Rows::given_out))]
-pub fn given_out(seeds: usize, number: usize) -> bool
+fn given_out(seeds: usize, number: usize) -> bool
     ensures { result ≡ given_out seeds number }
 {
-    if number < 1 {
-        return false;
-    }
-    number <= seeds
+    1 <= number && number <= seeds
 }
 
-fn same(a: bool, b: bool) -> bool
-    ensures { result ≡ beq a b }
+/// Ground 9.
+pub fn judge_number(session: &Session, number: usize) -> Result<(), Refusal>
+    ensures answer { answer_in result ≡ of_number (view session.now) number Accepted }
+    ensures sound { Sound session.now }
 {
-    if a { b } else { !b }
+    if !given_out(session.table.seeds, number) {
+        return Err(Ground::NumberNotGiven.at(Place::Nothing));
+    }
+    Ok(())
 }
 
-// Ground 20, the last of every call that adds to the count.
+/// Ground 20, the last of every call that adds to the count.
 #[tactic(auto, unfolding(crate::specs::State::count_answer))]
-fn judge_count(changes: usize) -> Answer
-    ensures { result ≡ count_answer changes }
+pub fn judge_count(changes: usize) -> Result<(), Refusal>
+    ensures { answer_in result ≡ count_answer changes }
 {
     if 1000000 <= changes {
-        return refused(Ground::ChangeLimit, Place::Nothing);
+        return Err(Ground::ChangeLimit.at(Place::Nothing));
     }
-    Answer::Accepted
+    Ok(())
 }
 
-// What the grounds before it answer, then ground 20.
-pub fn counted(earlier: Answer, changes: usize) -> Answer
-    ensures { result ≡ unless earlier (count_answer changes) }
+/// Grounds 9, 11 and 20.
+pub fn judge_rescore(session: &Session, number: usize, score: i32) -> Result<(), Refusal>
+    ensures answer { answer_in result ≡ rescore_answer (view session.now) number score }
+    ensures sound { Sound session.now }
 {
-    match earlier {
-        Answer::Accepted => judge_count(changes),
-        _ => earlier,
-    }
-}
-
-// Grounds 9, 11 and 20.
-pub fn judge_rescore(s: Session, number: usize, score: i32) -> Answer
-    ensures { result ≡ rescore_answer (view s) number score }
-{
-    if !given_out(s.table.seeds, number) {
-        return refused(Ground::NumberNotGiven, Place::Nothing);
-    }
+    judge_number(session, number)?;
     if !in_range(score) {
-        return refused(Ground::ScoreRange, Place::Seed(number));
+        return Err(Ground::ScoreRange.at(Place::Seed(number)));
     }
-    judge_count(s.changes)
+    judge_count(session.changes)
 }
 
-// Grounds 9, 10 and 20.
-pub fn judge_move(s: Session, number: usize, to: bool) -> Answer
-    requires { Sound s }
-    ensures { result ≡ move_answer (view s) number to }
+/// Grounds 9, 10 and 20.
+pub fn judge_move(session: &Session, number: usize, to: bool) -> Result<(), Refusal>
+    ensures answer { answer_in result ≡ move_answer (view session.now) number to }
+    ensures sound { Sound session.now }
 {
-    if !given_out(s.table.seeds, number) {
-        return refused(Ground::NumberNotGiven, Place::Nothing);
+    judge_number(session, number)?;
+    if summary_at(session.table, number - 1).present == to {
+        return Err(Ground::PresenceAsAsked.at(Place::Nothing));
     }
-    let row = summary_at(s.table, number - 1);
-    if same(row.present, to) {
-        return refused(Ground::PresenceAsAsked, Place::Nothing);
-    }
-    judge_count(s.changes)
+    judge_count(session.changes)
 }

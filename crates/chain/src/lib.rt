@@ -1,30 +1,30 @@
-// A session on two structures: seeds are added, withdrawn, brought back and rescored, and the best chain of those present is worked out.
+//! A session on two structures: seeds are added, withdrawn, brought back and rescored, and the best chain of those present is worked out.
 #![tactic(auto)]
 
 mod changing;
 mod judging;
 
-ghost use Rattle.std.specs.Prelude.{◌≡◌};
+ghost use Rattle.std.specs.Prelude.{◌≡◌, ◌+◌, length, IfOk};
+ghost use Rattle.answer.specs.Refusal.{answer_in};
 ghost use Rattle.seed.specs.Pairs.{pairs_of};
 ghost use Rattle.area.specs.declared.Order.TheVariants.{RisingA, Paper};
-ghost use Rattle.chain.specs.Opening.{opening, deck_opening, Opens};
-ghost use Rattle.chain.specs.Acts.{add, rescore, withdraw, bring_back, number_given};
-ghost use Rattle.chain.specs.Looking.{shown_of, Chains, Lists, Writes};
+ghost use Rattle.chain.specs.Opening.{opening, deck_opening, opening_answer, opened, Opens, RefusedWith};
+ghost use Rattle.chain.specs.Acts.{add, rescore, withdraw, bring_back};
+ghost use Rattle.chain.specs.Looking.{Chains, Lists, Writes, shown_of};
 ghost use Rattle.chain.specs.View.{view, Sound, Does};
 
-use adding::with_seed;
-use answer::{Answer, Ground, Place, refused};
-use area::{Listed, Order};
+use answer::Refusal;
+use area::Order;
 use best::Best;
-use changing::{changed, move_to, session_on};
+use changing::{change, move_to, session_on};
 use dealing::deal;
 use dealing::texts::read_both;
-use judging::{counted, given_out, judge_rescore};
-use seed::Pair;
-use table::{Summary, Table, empty, summary_at};
-use tree::Tree;
-use write::Written;
+use judging::{judge_number, judge_rescore};
+use std::marker::Model;
+use table::{Summary, Table, empty, rescored, summary_at};
+use tree::{Tree, single_tree};
 
+/// Two trees, the seeds given out with their scores and whether they are present, and how many changes there were.
 #[derive(Clone, Copy)]
 pub struct Session {
     q: Tree,
@@ -33,141 +33,156 @@ pub struct Session {
     changes: usize,
 }
 
-// What a call that may change a session answers, and the session that it hands over.
+impl Model for Session {
+    ghost use Rattle.chain.specs.Fields.{SessionFields};
+
+    ghost Value = { SessionFields };
+
+    ghost use Rattle.chain.specs.Handed.{session_fields, session_inside, WasHanded};
+
+    ghost view = { session_fields };
+
+    ghost invariant = { WasHanded };
+
+    ghost inverse = { session_inside };
+}
+
+/// What a change by value answers, and the session that it hands over: the very session beside a refusal.
 #[derive(Clone, Copy)]
 pub struct Changed {
-    pub answer: Answer,
+    pub answer: Result<(), Refusal>,
     pub session: Session,
 }
 
-// What an add answers, the number that the seed got, and the session that is handed over.
+/// What an add by value answers, the seed's number if it is accepted, and the session that it hands over.
 #[derive(Clone, Copy)]
 pub struct Added {
-    pub answer: Answer,
-    pub number: usize,
+    pub answer: Result<usize, Refusal>,
     pub session: Session,
 }
 
-// What is answered of a seed number, and what its row says: nothing beside a refusal.
+/// Why an opening was refused, and the session of "." and ".", which is handed over beside the refusal.
 #[derive(Clone, Copy)]
-pub struct Shown {
-    pub answer: Answer,
-    pub row: Summary,
+pub struct RefusedOpening {
+    pub refusal: Refusal,
+    pub session: Session,
 }
 
-// A session on two texts without seeds. Refused, it is that of "." and ".".
-pub fn open(q: &[u8], t: &[u8]) -> Changed
-    ensures { Opens (opening q.now t.now) result.answer result.session }
-{
-    let both = read_both(q, t);
-    let tree_q = both.q;
-    let tree_t = both.t;
-    let answer = both.answer;
-    Changed {
-        answer,
-        session: session_on(tree_q, tree_t, empty()),
+impl From<RefusedOpening> for Refusal {
+    ghost from_gives = { λ refused refusal. refusal ≡ refused.refusal };
+
+    fn from(refused: RefusedOpening) -> Refusal {
+        refused.refusal
     }
 }
 
-// A session on two texts with the seeds of a deck, all present. Refused, it is that of "." and ".".
-pub fn open_deck(q: &[u8], t: &[u8], deck: &[u8]) -> Changed
-    ensures { Opens (deck_opening q.now t.now deck.now) result.answer result.session }
-{
-    let dealt = deal(q, t, deck);
-    let tree_q = dealt.q;
-    let tree_t = dealt.t;
-    let table = dealt.table;
-    let answer = dealt.answer;
-    Changed {
-        answer,
-        session: session_on(tree_q, tree_t, table),
+impl From<Refusal> for RefusedOpening {
+    ghost from_gives = { RefusedWith };
+
+    fn from(refusal: Refusal) -> RefusedOpening {
+        let tree = single_tree();
+        RefusedOpening {
+            refusal,
+            session: session_on(tree, tree, empty()),
+        }
     }
+}
+
+/// A session on two texts without seeds.
+pub fn open(q: &[u8], t: &[u8]) -> Result<Session, RefusedOpening>
+    ensures { Opens (opening q.now t.now) (opening_answer result) (opened result) }
+{
+    let both = read_both(q, t)?;
+    Ok(session_on(both.q, both.t, empty()))
+}
+
+/// A session on two texts with the seeds of a deck, all present.
+pub fn open_deck(q: &[u8], t: &[u8], deck: &[u8]) -> Result<Session, RefusedOpening>
+    ensures { Opens (deck_opening q.now t.now deck.now) (opening_answer result) (opened result) }
+{
+    let dealt = deal(q, t, deck)?;
+    Ok(session_on(dealt.q, dealt.t, dealt.table))
 }
 
 // The open areas of a seed in an order.
-fn list_areas(s: Session, number: usize, order: Order, out: &mut [u8]) -> Listed
-    requires { Sound s }
+fn list_areas(s: Session, number: usize, order: Order, out: &mut [u8]) -> Result<usize, Refusal>
     ensures { Lists (view s) order number out.old out.new result }
 {
-    if !given_out(s.table.seeds, number) {
-        return Listed {
-            answer: refused(Ground::NumberNotGiven, Place::Nothing),
-            count: 0,
-        };
-    }
+    judge_number(&s, number)?;
     area::areas(s.q, s.t, s.table, number - 1, order, out)
 }
 
 impl Session {
-    // Adds the seed of these q and t, as far as both lists go, and answers its number, or 0 beside a refusal.
-    pub fn added(self, qs: &[u8], ts: &[u8], score: i32) -> Added
-        requires { Sound self }
-        ensures does { Does self (add (pairs_of qs.now ts.now) score) result.answer result.session }
-        ensures number { result.number ≡ number_given (view self) result.answer }
+    /// Adds the seed of these q and t, as far as both lists go.
+    pub fn added(mut self, qs: &[u8], ts: &[u8], score: i32) -> Added
+        ensures does { Does self (add (pairs_of qs.now ts.now) score) (answer_in result.answer) result.session }
+        ensures number { IfOk result.answer (λ number. number ≡ length (view self).rows + 1) }
     {
-        let grown = with_seed(self.q, self.t, self.table, qs, ts, score);
-        let judged = grown.answer;
-        let answer = counted(judged, self.changes);
-        match answer {
-            Answer::Accepted => {
-                let table = grown.table;
-                Added {
-                    answer,
-                    number: table.seeds,
-                    session: changed(self, table),
-                }
-            }
-            Answer::Refused {
-                ground: _,
-                place: _,
-            } => Added {
-                answer,
-                number: 0,
-                session: self,
-            },
+        let answer = changing::add(&mut self, qs, ts, score);
+        Added {
+            answer,
+            session: self,
         }
     }
 
-    // Withdraws a present seed.
-    pub fn withdrawn(self, number: usize) -> Changed
-        requires { Sound self }
-        ensures { Does self (withdraw number) result.answer result.session }
+    /// Withdraws a present seed.
+    pub fn withdraw(&mut self, number: usize) -> Result<(), Refusal>
+        ensures { Does self.old (withdraw number) (answer_in result) self.new }
     {
         move_to(self, number, false)
     }
 
-    // Makes a withdrawn seed present again.
-    pub fn brought_back(self, number: usize) -> Changed
-        requires { Sound self }
-        ensures { Does self (bring_back number) result.answer result.session }
+    /// Makes a withdrawn seed present again.
+    pub fn bring_back(&mut self, number: usize) -> Result<(), Refusal>
+        ensures { Does self.old (bring_back number) (answer_in result) self.new }
     {
         move_to(self, number, true)
     }
 
-    // Gives the seed another score, present or not.
-    pub fn rescored(self, number: usize, score: i32) -> Changed
-        requires { Sound self }
-        ensures { Does self (rescore number score) result.answer result.session }
+    /// Gives the seed another score, present or not.
+    pub fn rescore(&mut self, number: usize, score: i32) -> Result<(), Refusal>
+        ensures { Does self.old (rescore number score) (answer_in result) self.new }
     {
-        let answer = judge_rescore(self, number, score);
-        match answer {
-            Answer::Accepted => Changed {
-                answer,
-                session: changed(self, table::rescored(self.table, number - 1, score)),
-            },
-            Answer::Refused {
-                ground: _,
-                place: _,
-            } => Changed {
-                answer,
-                session: self,
-            },
+        judge_rescore(self, number, score)?;
+        change(self, rescored(self.table, number - 1, score));
+        Ok(())
+    }
+
+    /// Withdraws by value.
+    pub fn withdrawn(mut self, number: usize) -> Changed
+        ensures { Does self (withdraw number) (answer_in result.answer) result.session }
+    {
+        let answer = self.withdraw(number);
+        Changed {
+            answer,
+            session: self,
         }
     }
 
-    // The best chain of the seeds that are present: its total, and for each number whether the chain has it.
-    pub fn best_chain(self, scratch: &mut [u64]) -> Best
-        requires { Sound self }
+    /// Brings back by value.
+    pub fn brought_back(mut self, number: usize) -> Changed
+        ensures { Does self (bring_back number) (answer_in result.answer) result.session }
+    {
+        let answer = self.bring_back(number);
+        Changed {
+            answer,
+            session: self,
+        }
+    }
+
+    /// Rescores by value.
+    pub fn rescored(mut self, number: usize, score: i32) -> Changed
+        ensures { Does self (rescore number score) (answer_in result.answer) result.session }
+    {
+        let answer = self.rescore(number, score);
+        Changed {
+            answer,
+            session: self,
+        }
+    }
+
+    /// The best chain of the seeds that are present: its total, and for each number whether the chain has it.
+    pub fn best_chain(self, scratch: &mut [u64]) -> Result<Best, Refusal>
         ensures { Chains (view self) scratch.old scratch.new result }
     {
         best::best_chain(
@@ -183,49 +198,32 @@ impl Session {
         )
     }
 
-    // The open areas of a seed, present or not, written as four bytes each, by rising a.
-    pub fn areas(self, number: usize, out: &mut [u8]) -> Listed
-        requires { Sound self }
+    /// The open areas of a seed, present or not, written as four bytes each, by rising a: how many they are.
+    pub fn areas(self, number: usize, out: &mut [u8]) -> Result<usize, Refusal>
         ensures { Lists (view self) RisingA number out.old out.new result }
     {
         list_areas(self, number, Order::RisingA, out)
     }
 
-    // The same areas in the paper's order of work.
-    pub fn areas_in_paper_order(self, number: usize, out: &mut [u8]) -> Listed
-        requires { Sound self }
+    /// The same areas in the paper's order of work.
+    pub fn areas_in_paper_order(self, number: usize, out: &mut [u8]) -> Result<usize, Refusal>
         ensures { Lists (view self) Paper number out.old out.new result }
     {
         list_areas(self, number, Order::Paper, out)
     }
 
-    // The deck of the present seeds in plain form.
-    pub fn write_deck(self, out: &mut [u8]) -> Written
-        requires { Sound self }
+    /// The deck of the present seeds in plain form: its length.
+    pub fn write_deck(self, out: &mut [u8]) -> Result<usize, Refusal>
         ensures { Writes (view self) out.old out.new result }
     {
         plain::write(self.table, out)
     }
 
-    // What the row of a seed says, present or not: its score, its last pair, how many pairs it has, and its presence.
-    pub fn row(self, number: usize) -> Shown
-        requires { Sound self }
+    /// What the row of a seed says, present or not: its score, its last pair, how many pairs it has, and its presence.
+    pub fn row(self, number: usize) -> Result<Summary, Refusal>
         ensures { result ≡ shown_of (view self) number }
     {
-        if !given_out(self.table.seeds, number) {
-            return Shown {
-                answer: refused(Ground::NumberNotGiven, Place::Nothing),
-                row: Summary {
-                    score: 0,
-                    last: Pair { q: 0, t: 0 },
-                    pairs: 0,
-                    present: false,
-                },
-            };
-        }
-        Shown {
-            answer: Answer::Accepted,
-            row: summary_at(self.table, number - 1),
-        }
+        judge_number(&self, number)?;
+        Ok(summary_at(self.table, number - 1))
     }
 }

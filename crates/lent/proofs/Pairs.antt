@@ -11,8 +11,7 @@ use lib.IntN.{ℤ}
 use lib.ListN.{length, take, drop, get_or, set, length-set, length-replicate}
 use lib.Seq.{drop-cons, drop-length, take_all, take-nil, take-suc-set, length-take-le}
 use borrow.Author.Tests.{lt-ltb, le-ltb, ne_eqb}
-use Rattle.answer.specs.declared.Answer.{Answer}
-use Rattle.answer.specs.declared.Answer.TheVariants.{Accepted, Refused}
+use Rattle.answer.specs.Answer.{Answer, given, unless, Accepted, Refused}
 use Rattle.answer.proofs.Denied.{denies}
 use Rattle.answer.specs.declared.Ground.TheVariants.{ScoreRange, SeedLimit, PairLimit}
 use Rattle.answer.specs.declared.Place.{Place}
@@ -20,7 +19,6 @@ use Rattle.answer.specs.declared.Place.TheVariants.{Seed}
 use Rattle.tree.proofs.Leaves.{lt_or_le}
 use Rattle.seed.specs.Pairs.{pair_of, pairs_of}
 use Rattle.seed.specs.declared.Pair.{Pair}
-use Rattle.answer.specs.Answer.{given, unless}
 use Rattle.table.specs.Rows.{pairs_in_all, in_range}
 use Rattle.judge.specs.Judge.{judge_of}
 use Rattle.adding.specs.Adding.{limit_answer, next_answer}

@@ -7,8 +7,7 @@ use native.Mathlib.Omega.{arith}
 use lib.IntN.{ℤ}
 use lib.ListN.{length, length-set}
 use lib.Seq.{get_or-set_same, get_or-set_other}
-use Rattle.answer.specs.declared.Answer.{Answer}
-use Rattle.answer.specs.declared.Answer.TheVariants.{Accepted}
+use Rattle.answer.specs.Answer.{Answer, Accepted}
 use Rattle.table.specs.Rows.{Row, no_row, row_of, with_row, with_score}
 use Rattle.table.specs.Table.{rows_of}
 use Rattle.chain.specs.State.{State, changed}

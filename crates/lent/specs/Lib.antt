@@ -1,4 +1,4 @@
--- What a reader believes, in document 01's order.
+-- What a reader believes.
 pub mod Rescored
 -- What only the contracts of inner functions cite.
 pub mod inner

@@ -1,7 +1,6 @@
--- A rescored seed, present or not, changes nowhere but in its score, in the session that the caller holds (document 01, "The session").
+-- A rescored seed, present or not, changes nowhere but in its score, in the session that the caller holds.
 use Rattle.std.specs.Prelude.{◌≡◌, ◌≢◌, ℕ, ◌+◌, ◌≤◌, ℤ, length}
-use Rattle.answer.specs.declared.Answer.{Answer}
-use Rattle.answer.specs.declared.Answer.TheVariants.{Accepted}
+use Rattle.answer.specs.Answer.{Answer, Accepted}
 use Rattle.table.specs.Rows.{row_of}
 use Rattle.chain.specs.View.{view}
 use Rattle.chain.specs.declared.Session.{Session}

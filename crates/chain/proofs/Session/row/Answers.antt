@@ -1,13 +1,19 @@
-use Rattle.std.proofs.Common.{sym, ap, not}
-use Rattle.chain.proofs.Judges.{given_out_lem}
+use Rattle.std.proofs.lemmas.Result.{err_from_is_err_and}
+use Rattle.chain.specs.View.{view}
+use Rattle.chain.specs.Handed.{session_fields}
+use Rattle.chain.proofs.Judges.{number_known}
 use Rattle.chain.proofs.Looks.{shows, shows_not}
 use Rattle.chain.proofs.Session.row.Goals as goal
 
-pub returns-then-not-given_out : goal.returns-then-not-given_out
-returns-then-not-given_out c = rw c.refused.ensures (shows_not c.args.self _ (sym c.if-not-given_out.ensures))
+pub returns-in_err-judge_number : goal.returns-in_err-judge_number
+returns-in_err-judge_number c =
+    let p = err_from_is_err_and c.from_residual.result c.from_residual.ensures.1 in
+    rw (p.1, p.2) (shows_not c.args.self c.args.number c.in_err-judge_number.ensures.answer)
 
 pub overflow_sub-number : goal.overflow_sub-number
-overflow_sub-number c = (given_out_lem _ _ (ap not (sym c.if-not-given_out.ensures))).low
+overflow_sub-number c = (number_known (view c.args.self) c.args.number c.in_ok-judge_number.ensures.answer).low
 
 pub returns : goal.returns
-returns c = shows c.args.self _ (sym c.if-not-given_out.ensures) c.summary_at.ensures
+returns c =
+    rw (← c.self.view_is)
+    (shows (session_fields c.self.inside) c.args.number (rw (← c.self.view_is) at c.in_ok-judge_number.ensures.answer) c.summary_at.ensures)

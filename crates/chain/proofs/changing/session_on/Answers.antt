@@ -1,5 +1,5 @@
-use Rattle.chain.proofs.Calls.{session_opened}
+use Rattle.chain.proofs.Calls.{opened_state}
 use Rattle.chain.proofs.changing.session_on.Goals as goal
 
-pub returns : goal.returns
-returns c = session_opened _ _ _ c.requires
+pub returns-clause-state : goal.returns-clause-state
+returns-clause-state c = opened_state c.args.q c.args.t c.args.table

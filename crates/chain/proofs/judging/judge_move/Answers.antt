@@ -1,21 +1,18 @@
-use Rattle.std.proofs.Common.{sym, ap, not, refl}
-use Rattle.table.specs.Table.{rows_of}
-use Rattle.table.proofs.Tables.{rows_length}
-use Rattle.chain.proofs.Judges.{given_out_lem, as_asked}
+use Rattle.std.proofs.Common.{ap, ◌∙◌}
+use Rattle.chain.specs.View.{view}
+use Rattle.chain.specs.Fields.{SessionFields}
+use Rattle.chain.proofs.Judges.{number_known, presence_refused, presence_passed}
 use Rattle.chain.proofs.judging.judge_move.Goals as goal
 
-pub returns-then-not-given_out : goal.returns-then-not-given_out
-returns-then-not-given_out c = rw (rows_length c.args.s.table, sym c.if-not-given_out.ensures) c.refused.ensures
-
 pub overflow_sub-number : goal.overflow_sub-number
-overflow_sub-number c = (given_out_lem _ _ (ap not (sym c.if-not-given_out.ensures))).low
+overflow_sub-number c = (number_known (view c.args.session.now) c.args.number c.in_ok-judge_number.ensures.answer).low
 
-pub returns-then-same : goal.returns-then-same
-returns-then-same c =
-    rw (rows_length c.args.s.table, sym c.if-not-given_out.ensures, as_asked (rows_of c.args.s.table) c.args.number c.args.to c.summary_at-row.ensures c.if-same.ensures refl)
-    c.refused-then-same.ensures
+pub returns-then-summary_at-to-clause-answer : goal.returns-then-summary_at-to-clause-answer
+returns-then-summary_at-to-clause-answer c =
+    rw c.at.ensures
+    (presence_refused (view c.args.session.now) c.args.number c.in_ok-judge_number.ensures.answer c.args.to (rw (ap (λ (s : SessionFields). s.table) c.session.view_is) at c.summary_at.ensures) c.if-summary_at-to.true)
 
-pub returns : goal.returns
-returns c =
-    rw (rows_length c.args.s.table, sym c.if-not-given_out.ensures, as_asked (rows_of c.args.s.table) c.args.number c.args.to c.summary_at-row.ensures c.if-same.ensures refl)
-    c.judge_count.ensures
+pub returns-clause-answer : goal.returns-clause-answer
+returns-clause-answer c =
+    (rw (ap (λ (s : SessionFields). s.changes) c.session.view_is) at c.judge_count.ensures)
+    ∙ presence_passed (view c.args.session.now) c.args.number c.in_ok-judge_number.ensures.answer c.args.to (rw (ap (λ (s : SessionFields). s.table) c.session.view_is) at c.summary_at.ensures) c.if-summary_at-to.false

@@ -1,9 +1,7 @@
-use Rattle.std.proofs.Common.{◌≡◌, ◌-◌, ◌≤◌, length, drop}
+use Rattle.std.proofs.Common.{◌≡◌, drop}
 use Rattle.lent.specs.inner.Listing.{no_nodes, with_pairs}
 use Rattle.lent.proofs.listing.listed.Given as goal
 
-abbrev pub invariant-loop-i : goal.invariant-loop-i
-invariant-loop-i l = (l.i ≤ length l.pairs) × (with_pairs (drop l.i l.pairs) l.nodes ≡ with_pairs l.pairs no_nodes)
-
-abbrev pub decreases-loop-i : goal.decreases-loop-i
-decreases-loop-i l = length l.pairs - l.i
+-- What is left of the pairs, listed behind the nodes at hand, gives what the whole slice gives.
+abbrev pub invariant-loop-pair : goal.invariant-loop-pair
+invariant-loop-pair l = with_pairs (drop l.pair-index l.pairs) l.nodes ≡ with_pairs l.pairs no_nodes
