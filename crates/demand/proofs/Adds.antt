@@ -1,12 +1,15 @@
 -- Demand 2 of the session: a list of pairs is added exactly if it is a seed within the limits, and it gets the number after the last.
-use mathlib.Core.Path.{◌≡◌, refl, sym, subst, ◌∙◌}
+use mathlib.Core.Path.{◌≡◌, sym, subst, ◌∙◌}
 use mathlib.Core.Logic.{◌↔◌}
 use mathlib.Core.List.{List}
-use Prim.Native.Nat.{ℕ}
+use Prim.Native.Nat.{ℕ, ◌+◌}
 use lib.IntN.{ℤ}
+use lib.ListN.{length}
+use Rattle.std.specs.Prelude.{Result, IfOk}
+use Rattle.answer.specs.Refusal.{answer_in}
 use borrow.Author.Tests.{lt-leb}
-use Rattle.answer.specs.declared.Answer.{Answer}
-use Rattle.answer.specs.declared.Answer.TheVariants.{Accepted, Refused}
+use Rattle.answer.specs.Answer.{Answer, Accepted}
+use Rattle.answer.specs.declared.Refusal.{Refusal}
 use Rattle.answer.proofs.Given.{not_refused}
 use Rattle.tree.specs.Nested.{Nested}
 use Rattle.tree.specs.Reading.{leaves_of}
@@ -15,7 +18,7 @@ use Rattle.seed.specs.declared.Pair.{Pair}
 use Rattle.adding.specs.Adding.{next_answer, Addable}
 use Rattle.adding.proofs.Next.{next_exactly}
 use Rattle.chain.specs.State.{State, count_answer}
-use Rattle.chain.specs.Acts.{add, add_answer, grounds, number_given}
+use Rattle.chain.specs.Acts.{add, add_answer, grounds}
 use Rattle.chain.specs.View.{view, Does}
 use Rattle.chain.specs.Opening.{Outcome}
 use Rattle.chain.specs.declared.Session.{Session}
@@ -47,21 +50,13 @@ module _ (s : State) (tree_q : Nested (leaves_of s.q)) (tree_t : Nested (leaves_
   adds_exactly : (grounds s (add ps z) ≡ Accepted) ↔ Takes s ps z
   adds_exactly = (λ e. taken (add_passed s ps z e), λ w. add_passes s ps z (takes w))
 
--- Of every session that a list of calls handed over, by the history: what an add answers, and the number that it gives.
+-- Of every session that a list of calls handed over, by the history: when an add is accepted, and the number that it gives.
 pub adds_by_history : {o : Outcome} {s next : Session} {h : List Event} → Reached o s h
-    → (ps : List Pair) (z : ℤ) {a : Answer} {number : ℕ} → Does s (add ps z) a next → number ≡ number_given (view s) a
-    → AddsRight (state_of o.state h) ps z a number
-adds_by_history {o} {s} {next} {h} w ps z {a} {number} d e =
-    subst (λ (x : State). AddsRight x ps z a number) (by_history w)
-    (record {
-      exactly = (λ ok. told.0 (sym d.answers ∙ ok), λ t. d.answers ∙ told.1 t);
-      given = λ ok. rw ok at e;
-      none = zero_number a e;
-    })
+    → (ps : List Pair) (z : ℤ) {r : Result ℕ Refusal} → Does s (add ps z) (answer_in r) next → IfOk r (λ number. number ≡ length (view s).rows + 1)
+    → AddsRight (state_of o.state h) ps z r
+adds_by_history {o} {s} w ps z {r} d given =
+    subst (λ (x : State). AddsRight x ps z r) (by_history w)
+    (record { exactly = (λ ok. told.0 (sym d.answers ∙ ok), λ t. d.answers ∙ told.1 t); given = given })
   where
     told : (grounds (view s) (add ps z) ≡ Accepted) ↔ Takes (view s) ps z
     told = let kept = (reached_sound w).kept in adds_exactly (view s) (tree_nested s.q kept.is_q) (tree_nested s.t kept.is_t) ps z
-
-    zero_number : (x : Answer) → number ≡ number_given (view s) x → (x ≡ Accepted → ⊥) → number ≡ 0
-    zero_number Accepted f denied = absurd (denied refl)
-    zero_number (Refused g p) f denied = f

@@ -1,17 +1,16 @@
 -- Demand 2 of the session: the boxes listed for a number, in either order, are the open areas of its row by the history.
-use mathlib.Core.Path.{◌≡◌, sym, subst, ◌∙◌}
+use mathlib.Core.Path.{sym, subst, ◌∙◌}
 use mathlib.Core.Logic.{◌↔◌}
 use mathlib.Core.List.{List}
 use Prim.Native.Nat.{ℕ}
 use lib.ListN.{length}
-use Rattle.answer.specs.declared.Answer.TheVariants.{Accepted}
+use Rattle.std.specs.Prelude.{Ok}
 use Rattle.tree.specs.Reading.{leaves_of}
 use Rattle.tree.proofs.Trees.{tree_nested}
 use Rattle.seed.specs.Seed.{◌∈◌}
 use Rattle.seed.specs.Area.{Box, Areas}
 use Rattle.seed.specs.declared.Pair.{Pair}
 use Rattle.area.specs.PaperOrder.{AreasInPaperOrder, AreasInOrder}
-use Rattle.area.specs.declared.Listed.{Listed}
 use Rattle.area.specs.declared.Order.{Order}
 use Rattle.area.proofs.PaperOrder.{areas_in_order}
 use Rattle.table.specs.Rows.{row_of}
@@ -37,16 +36,16 @@ module _ (s : Session) (h : Sound s) (k : ℕ) (g : Given (length (rows_of s.tab
 
 -- Of every session that a list of calls handed over, in either order.
 pub areas_by_history : {o : Outcome} {s : Session} {h : List Event} → Reached o s h
-    → (order : Order) (k : ℕ) (before after : List ℕ) (r : Listed) → Lists (view s) order k before after r → r.answer ≡ Accepted
-    → ListsAreas (state_of o.state h) order k before after r
-areas_by_history {o} {s} {h} w order k before after r l ok =
-    let put = areas_put l ok in
+    → (order : Order) (k : ℕ) (before after : List ℕ) (count : ℕ) → Lists (view s) order k before after (Ok count)
+    → ListsAreas (state_of o.state h) order k before after count
+areas_by_history {o} {s} {h} w order k before after count l =
+    let put = areas_put l in
     let sound = reached_sound w in
-    subst (λ (x : State). ListsAreas x order k before after r) (by_history w)
+    subst (λ (x : State). ListsAreas x order k before after count) (by_history w)
     (record {
       boxes = areas_in order (view s) k;
       are = row_areas s sound k put.number order;
-      count = put.count ∙ sym (as_many s k sound put.number order);
+      count = put.count_is ∙ sym (as_many s k sound put.number order);
       output = put.output;
     })
 

@@ -4,7 +4,7 @@ use mathlib.Core.Path.{◌≡◌, sym, subst}
 use mathlib.Core.List.{List}
 use Prim.Native.Nat.{ℕ}
 use Rattle.answer.specs.Grounds.{Decides}
-use Rattle.answer.specs.declared.Answer.{Answer}
+use Rattle.answer.specs.Answer.{Answer}
 use Rattle.tree.proofs.Trees.{tree_nested}
 use Rattle.chain.specs.State.{State}
 use Rattle.chain.specs.Acts.{Act, grounds}

@@ -1,18 +1,17 @@
 -- Demand 2 of the session: what is written of a deck that was opened is its plain form, and the deck that a session writes is opened, on the
 -- same texts, with its present rows by the history.
 use mathlib.Core.Path.{◌≡◌, refl, sym, ap, ap₂, subst, ◌∙◌}
-use mathlib.Core.Bool.{Bool, true, false, cond}
+use mathlib.Core.Bool.{true}
 use mathlib.Core.List.{List, [], ◌∷◌, flatten}
 use Prim.Native.Nat.{ℕ, suc, ◌+◌, ◌≤◌, ◌<◌}
 use native.Mathlib.Omega.{arith}
 use lib.ListN.{length, take, length-append}
 use lib.IntN.{ℤ, pos, negsuc}
 use lib.Signed.{mag}
-use Rattle.answer.specs.declared.Answer.{Answer}
-use Rattle.answer.specs.declared.Answer.TheVariants.{Accepted}
+use Rattle.answer.specs.Answer.{Answer, Accepted}
+use Rattle.std.specs.Prelude.{Ok}
+use Rattle.std.proofs.lemmas.Bool.{cond_both}
 use Rattle.write.specs.Wrote.{Wrote}
-use Rattle.write.specs.declared.Written.{Written}
-use Rattle.write.proofs.Wrote.{wrote_front}
 use Rattle.tree.specs.Run.{Run}
 use Rattle.tree.specs.Nested.{Nested}
 use Rattle.tree.specs.Reading.{Spells, leaves_of, tree_of}
@@ -38,12 +37,13 @@ use Rattle.chain.specs.View.{view, Sound}
 use Rattle.chain.specs.Opening.{Outcome, start_with, deck_opening, Opens}
 use Rattle.chain.specs.Looking.{Writes}
 use Rattle.chain.specs.declared.Session.{Session}
-use Rattle.chain.proofs.Looks.{deck_put}
 use Rattle.demand.specs.History.{Event, state_of}
 use Rattle.demand.specs.Reached.{Reached}
-use Rattle.demand.specs.Reached.Reached.{opened}
+use Rattle.demand.specs.Reached.Reached.{begun}
 use Rattle.demand.specs.Demands.{OpenedOn, table_by}
 use Rattle.demand.proofs.Histories.{reached_sound, by_history}
+use Rattle.chain.proofs.Looks.{deck_put}
+use Rattle.write.proofs.Wrote.{wrote_front}
 use Rattle.demand.proofs.Openings.{both_spelled, deck_state, reached_state, reached_trees}
 
 -- A score in range is stored as it is.
@@ -56,38 +56,33 @@ module _ (q t : Tree) (tree_q : Nested (leaves_of q)) (tree_t : Nested (leaves_o
   present_small : (rows : List Row) → AllHold q t rows → All RowInLimits (present_rows rows)
   unfolding present_rows
   present_small [] h = tt
-  present_small (r ∷ rs) h = go (present_small rs (λ i l. h (suc i) (omega arith))) r.present refl
-    where
-      go : All RowInLimits (present_rows rs) → (b : Bool) → r.present ≡ b → All RowInLimits (cond b (r ∷ present_rows rs) (present_rows rs))
-      go rest true e = let first = h 0 (omega arith) in (record { some = first.seed.pattern.some; score = range_small r.score first.ranged; present = e }, rest)
-      go rest false e = rest
+  present_small (r ∷ rs) h =
+      let first = h 0 (omega arith) in
+      let rest = present_small rs (λ i l. h (suc i) (omega arith)) in
+      cond_both r.present _ _ (All RowInLimits) (λ e. (record { some = first.seed.pattern.some; score = range_small r.score first.ranged; present = e }, rest)) (λ e. rest)
 
   present_judged : (rows : List Row) → AllHold q t rows → (n : ℕ) → seeds_answer q t n (present_rows rows) ≡ Accepted
   unfolding present_rows seeds_answer
   present_judged [] h n = refl
-  present_judged (r ∷ rs) h n = go (present_judged rs (λ i l. h (suc i) (omega arith))) r.present
-    where
-      go : ((m : ℕ) → seeds_answer q t m (present_rows rs) ≡ Accepted) → (b : Bool) → seeds_answer q t n (cond b (r ∷ present_rows rs) (present_rows rs)) ≡ Accepted
-      go rest true = let first = h 0 (omega arith) in rw (first.ranged, (accepts_seeds q t tree_q tree_t r.pairs n first.seed.pattern.some).1 first.seed) (rest (suc n))
-      go rest false = rest n
+  present_judged (r ∷ rs) h n =
+      let first = h 0 (omega arith) in
+      let rest = present_judged rs (λ i l. h (suc i) (omega arith)) in
+      cond_both r.present _ _ (λ rows. seeds_answer q t n rows ≡ Accepted)
+      (λ e. rw (first.ranged, (accepts_seeds q t tree_q tree_t r.pairs n first.seed.pattern.some).1 first.seed) (rest (suc n)))
+      (λ e. rest n)
 
 present_few : (rows : List Row) → length (present_rows rows) ≤ length rows
 unfolding present_rows
 present_few [] = omega arith
-present_few (r ∷ rs) = go (present_few rs) r.present
-  where
-    go : length (present_rows rs) ≤ length rs → (b : Bool) → length (cond b (r ∷ present_rows rs) (present_rows rs)) ≤ length (r ∷ rs)
-    go rest true = omega (arith, rest)
-    go rest false = omega (arith, rest)
+present_few (r ∷ rs) = cond_both r.present (r ∷ present_rows rs) (present_rows rs) (λ rows. length rows ≤ length (r ∷ rs)) (λ e. omega (arith, present_few rs)) (λ e. omega (arith, present_few rs))
 
 present_pairs : (rows : List Row) → length (flatten (chains_of (present_rows rows))) ≤ pairs_in_all rows
 unfolding present_rows pairs_in_all flatten
 present_pairs [] = omega arith
-present_pairs (r ∷ rs) = go (present_pairs rs) r.present
-  where
-    go : length (flatten (chains_of (present_rows rs))) ≤ pairs_in_all rs → (b : Bool) → length (flatten (chains_of (cond b (r ∷ present_rows rs) (present_rows rs)))) ≤ length r.pairs + pairs_in_all rs
-    go rest true = omega (arith, rest, length-append r.pairs (flatten (chains_of (present_rows rs))))
-    go rest false = omega (arith, rest)
+present_pairs (r ∷ rs) =
+    cond_both r.present (r ∷ present_rows rs) (present_rows rs) (λ rows. length (flatten (chains_of rows)) ≤ length r.pairs + pairs_in_all rs)
+    (λ e. omega (arith, present_pairs rs, length-append r.pairs (flatten (chains_of (present_rows rs)))))
+    (λ e. omega (arith, present_pairs rs))
 
 module _ (s : Session) (h : Sound s) where
   tree_q : Nested (leaves_of s.q)
@@ -112,19 +107,19 @@ module _ (s : Session) (h : Sound s) where
   deck_reopened q t e = rw (e, deck_read, present_judged s.q s.t tree_q tree_t (rows_of s.table) h.kept.each 1)
 
 -- What is written after any list of calls: the plain form of the rows that are present by the history.
-module _ {o : Outcome} {s : Session} {h : List Event} (reached : Reached o s h) {before after : List ℕ} {w : Written} (x : Writes (view s) before after w) (ok : w.answer ≡ Accepted) where
-  pub deck_by_history : Wrote (plain_of (present_rows (state_of o.state h).rows)) before after w
+module _ {o : Outcome} {s : Session} {h : List Event} (reached : Reached o s h) {before after : List ℕ} {size : ℕ} (x : Writes (view s) before after (Ok size)) where
+  pub deck_by_history : Wrote (plain_of (present_rows (state_of o.state h).rows)) before after (Ok size)
   unfolding deck_of
-  deck_by_history = subst (λ (y : State). Wrote (plain_of (present_rows y.rows)) before after w) (by_history reached) (deck_put x ok).wrote
+  deck_by_history = subst (λ (y : State). Wrote (plain_of (present_rows y.rows)) before after (Ok size)) (by_history reached) (deck_put x).wrote
 
   -- It stands at the start of the output.
-  deck_written : take w.length after ≡ plain_of (present_rows (view s).rows)
+  deck_written : take size after ≡ plain_of (present_rows (view s).rows)
   unfolding deck_of
-  deck_written = let put = deck_put x ok in wrote_front (deck_of (view s)) before after w put.room put.wrote
+  deck_written = let put = deck_put x in wrote_front (deck_of (view s)) before after (Ok size) refl put.wrote
 
   -- Opened on the same texts, it gives the rows that were present, numbered from 1 in order.
   pub written_then_opened : {r p : Run} {rows : List Row} → OpenedOn o r p rows → (q t : List ℕ) → Spells r q → Spells p t
-      → {a : Answer} {again : Session} → Opens (deck_opening q t (take w.length after)) a again
+      → {a : Answer} {again : Session} → Opens (deck_opening q t (take size after)) a again
       → (a ≡ Accepted) × (view again ≡ start_with (tree_of r) (tree_of p) (present_rows (table_by r p rows h)))
   written_then_opened {r} {p} {rows} on q t spells-q spells-t {a} {again} opens =
       let trees = reached_trees on reached in
@@ -135,9 +130,9 @@ module _ {o : Outcome} {s : Session} {h : List Event} (reached : Reached o s h) 
       )
 
 -- An accepted deck that is opened and written is put in plain form.
-pub opened_then_written : (q t d : List ℕ) {s : Session} → Opens (deck_opening q t d) Accepted s → {before after : List ℕ} {w : Written} → Writes (view s) before after w → w.answer ≡ Accepted → Wrote (plain_of (rows_in (deck.deck_reading d))) before after w
+pub opened_then_written : (q t d : List ℕ) {s : Session} → Opens (deck_opening q t d) Accepted s → {before after : List ℕ} {size : ℕ} → Writes (view s) before after (Ok size) → Wrote (plain_of (rows_in (deck.deck_reading d))) before after (Ok size)
 unfolding state_of
-opened_then_written q t d {s} o {before} {after} {w} x ok =
-    subst (λ (rows : List Row). Wrote (plain_of rows) before after w)
+opened_then_written q t d {s} o {before} {after} {size} x =
+    subst (λ (rows : List Row). Wrote (plain_of rows) before after (Ok size))
     (ap (λ (y : State). present_rows y.rows) (deck_state q t d (sym o.answers)) ∙ reading_present d)
-    (deck_by_history (opened o) x ok)
+    (deck_by_history (begun (Ok s) o) x)

@@ -1,14 +1,17 @@
--- Sessions on a text without structure (document 02, f): a seed on an added root that stands alone has no areas.
+-- Sessions on a text without structure: a seed on an added root that stands alone has no areas.
 use mathlib.Core.Path.{◌≡◌, refl, sym, ap, subst, ◌∙◌}
 use mathlib.Core.Logic.{◌⊎◌, inl, inr, ⊎_elim}
 use mathlib.Core.List.{List, [], ◌∷◌}
 use Prim.Native.Nat.{ℕ}
 use native.Mathlib.Omega.{arith}
 use lib.ListN.{length}
+use Rattle.std.specs.Prelude.{Result, Ok, Err}
+use Rattle.answer.specs.Refusal.{answer_in}
 use Rattle.answer.specs.Answer.Said.{accepted}
 use Rattle.answer.specs.Grounds.GivenIf.{fails}
 use Rattle.answer.specs.Grounds.◌then◌.{later}
-use Rattle.answer.specs.declared.Answer.TheVariants.{Accepted}
+use Rattle.answer.specs.Answer.{Accepted}
+use Rattle.answer.specs.declared.Refusal.{Refusal}
 use Rattle.answer.proofs.Numbers.{said_injective}
 use Rattle.write.specs.Wrote.{with_bytes}
 use Rattle.tree.specs.Run.{Run}
@@ -19,7 +22,6 @@ use Rattle.seed.specs.Paths.{RootAlone}
 use Rattle.seed.specs.Area.{Box}
 use Rattle.seed.specs.AreaList.{bytes_of}
 use Rattle.seed.proofs.RootAlone.{alone_no_areas}
-use Rattle.area.specs.declared.Listed.{Listed}
 use Rattle.area.specs.declared.Order.{Order}
 use Rattle.area.specs.declared.Order.TheVariants.{RisingA}
 use Rattle.table.specs.Rows.{Row}
@@ -55,9 +57,9 @@ module _ {o : Outcome} {r p : Run} {rows : List Row} (on : OpenedOn o r p rows) 
   alone = let trees = reached_trees on w in ⊎_elim (λ e. inl (one_leaf trees.0 e)) (λ e. inr (one_leaf trees.1 e)) empty
 
   -- Listing the areas of a number that was given out, in either order, is accepted on an output of any length, answers 0 and writes nothing.
-  pub empty_no_areas : (order : Order) (k : ℕ) → GivenOut (state_of o.state h) k → (before after : List ℕ) (x : Listed) → Lists (view s) order k before after x → (x.answer ≡ Accepted) × (x.count ≡ 0) × (after ≡ before)
+  pub empty_no_areas : (order : Order) (k : ℕ) → GivenOut (state_of o.state h) k → (before after : List ℕ) (r : Result ℕ Refusal) → Lists (view s) order k before after r → (r ≡ Ok 0) × (after ≡ before)
   unfolding bytes_of
-  empty_no_areas order k given before after x l =
+  empty_no_areas order k given before after r l =
       let sound = reached_sound w in
       let now : State = state_of o.state h in
       let number : GivenOut (view s) k = subst (λ (y : State). GivenOut y k) (sym (by_history w)) given in
@@ -67,6 +69,11 @@ module _ {o : Outcome} {r p : Run} {rows : List Row} (on : OpenedOn o r p rows) 
       let none : areas_in order (view s) k ≡ [] = no_length (areas_in order (view s) k) (as_many s k sound out order ∙ zero) in
       let still : length (areas_of now k) ≡ 0 = ap (λ (y : State). length (areas_of y k)) (sym (by_history w)) ∙ zero in
       let says : CallSays now (list_areas order k (length before)) accepted = later (fails (λ n. n given)) (fails (λ short. omega (arith, still))) in
-      let ok : x.answer ≡ Accepted = said_injective x.answer Accepted (sym ((look_grounds w (list_areas order k (length before)) (listed order k l)).decided says)) in
-      let put = areas_put l ok in
-      (ok, put.count ∙ zero, put.output ∙ ap (λ (xs : List Box). with_bytes (bytes_of xs) before) none)
+      let ok : answer_in r ≡ Accepted = said_injective (answer_in r) Accepted (sym ((look_grounds w (list_areas order k (length before)) (listed order k l)).decided says)) in
+      put zero none r l ok
+    where
+      put : length (areas_of (view s) k) ≡ 0 → areas_in order (view s) k ≡ [] → (x : Result ℕ Refusal) → Lists (view s) order k before after x → answer_in x ≡ Accepted → (x ≡ Ok 0) × (after ≡ before)
+      put zero none (Ok count) m ok =
+          let listed = areas_put m in
+          (ap Ok (listed.count_is ∙ zero), listed.output ∙ ap (λ (xs : List Box). with_bytes (bytes_of xs) before) none)
+      put zero none (Err e) m ok = absurd (cc)

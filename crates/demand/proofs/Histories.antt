@@ -1,23 +1,21 @@
 -- A session that a list of calls handed over is sound, and its state is that of the list's history.
 use mathlib.Core.Path.{◌≡◌, refl, sym, ap, ◌∙◌}
-use mathlib.Core.Bool.{Bool, true, false, cond, false≢true}
+use mathlib.Core.Bool.{true, cond, false≢true}
 use mathlib.Core.List.{List, [], ◌∷◌}
-use Rattle.answer.specs.Answer.{decide, is_accepted}
-use Rattle.answer.specs.declared.Answer.{Answer}
-use Rattle.answer.specs.declared.Answer.TheVariants.{Accepted, Refused}
-use Rattle.area.specs.declared.Listed.{Listed}
-use Rattle.best.specs.declared.Best.{Best}
-use Rattle.write.specs.declared.Written.{Written}
+use Rattle.std.specs.Prelude.{Result}
+use Rattle.std.proofs.lemmas.Bool.{cond_both}
+use Rattle.answer.specs.Answer.{decide, is_accepted, Answer, Accepted, Refused}
+use Rattle.answer.specs.Refusal.{result_of, answer_in}
+use Rattle.answer.specs.declared.Refusal.{Refusal}
 use Rattle.chain.specs.State.{State}
 use Rattle.chain.specs.Acts.{Act, add, withdraw, bring_back, rescore, best_chain, list_areas, write_deck, show_row, grounds, after}
 use Rattle.chain.specs.View.{view, Sound}
 use Rattle.chain.specs.Opening.{Outcome}
 use Rattle.chain.specs.declared.Session.{Session}
-use Rattle.chain.specs.declared.Shown.{Shown}
 use Rattle.demand.specs.History.{Event, event, state_of}
 use Rattle.demand.specs.Reached.{Looked, Reached}
 use Rattle.demand.specs.Reached.Looked.{chained, listed, written, shown}
-use Rattle.demand.specs.Reached.Reached.{opened, called, looked}
+use Rattle.demand.specs.Reached.Reached.{begun, called, looked}
 
 -- A call that hands over no session leaves every state as it is.
 still : {s : Session} {act : Act} {a : Answer} → Looked s act a → (x : State) → after act x ≡ x
@@ -26,12 +24,16 @@ still (listed order k c) x = refl
 still (written c) x = refl
 still (shown k c) x = refl
 
+answer_is : {T : Type 0} {r : Result T Refusal} (a : Answer) (value : T) → r ≡ result_of a value → answer_in r ≡ a
+answer_is Accepted value e = ap answer_in e
+answer_is (Refused g p) value e = ap answer_in e
+
 -- It answers what its grounds say.
 pub looked_answer : {s : Session} {act : Act} {a : Answer} → Looked s act a → a ≡ grounds (view s) act
-looked_answer (chained c) = ap (λ (x : Best). x.answer) c.answers
-looked_answer (listed order k c) = ap (λ (x : Listed). x.answer) c.answers
-looked_answer (written c) = ap (λ (x : Written). x.answer) c.answers
-looked_answer (shown k e) = ap (λ (x : Shown). x.answer) e
+looked_answer (chained c) = answer_is _ _ c.answers
+looked_answer (listed order k c) = answer_is _ _ c.answers
+looked_answer (written c) = answer_is _ _ c.answers
+looked_answer (shown k e) = answer_is _ _ e
 
 by_event : {A : Type 0} (a : Answer) (x y : A) → decide a x y ≡ cond (is_accepted a) x y
 by_event Accepted x y = refl
@@ -41,14 +43,10 @@ was_accepted : (a : Answer) → is_accepted a ≡ true → a ≡ Accepted
 was_accepted Accepted e = refl
 was_accepted (Refused g p) e = absurd (false≢true e)
 
-either_same : {A : Type 0} (b : Bool) (x y : A) → x ≡ y → cond b x y ≡ y
-either_same true x y e = e
-either_same false x y e = refl
-
 -- In a history a call that hands over no session leaves the state as it was.
 pub looked_still : {s : Session} {act : Act} {a : Answer} → Looked s act a → (start : State) (h : List Event) → state_of start (event act a ∷ h) ≡ state_of start h
 unfolding state_of
-looked_still {s} {act} {a} l start h = either_same (is_accepted a) (after act (state_of start h)) (state_of start h) (still l (state_of start h))
+looked_still {s} {act} {a} l start h = cond_both (is_accepted a) _ _ (λ x. x ≡ state_of start h) (λ e. still l (state_of start h)) (λ e. refl)
 
 -- So does a refused call.
 pub refused_still : (act : Act) (a : Answer) → (a ≡ Accepted → ⊥) → (start : State) (h : List Event) → state_of start (event act a ∷ h) ≡ state_of start h
@@ -57,7 +55,7 @@ refused_still act Accepted denied start h = absurd (denied refl)
 refused_still act (Refused g p) denied start h = refl
 
 pub reached_sound : {o : Outcome} {s : Session} {h : List Event} → Reached o s h → Sound s
-reached_sound (opened w) = w.sound
+reached_sound (begun r w) = w.sound
 reached_sound (called w d) = d.sound
 reached_sound (looked w l) = reached_sound w
 
@@ -75,17 +73,16 @@ trees_after (show_row k) s = (refl, refl)
 pub trees_stay : (start : State) (h : List Event) → ((state_of start h).q ≡ start.q) × ((state_of start h).t ≡ start.t)
 unfolding state_of
 trees_stay start [] = (refl, refl)
-trees_stay start (e ∷ es) = go (state_of start es) (trees_stay start es) e.accepted
-  where
-    go : (x : State) → (x.q ≡ start.q) × (x.t ≡ start.t) → (b : Bool) → ((cond b (after e.act x) x).q ≡ start.q) × ((cond b (after e.act x) x).t ≡ start.t)
-    go x v true = let w = trees_after e.act x in (w.0 ∙ v.0, w.1 ∙ v.1)
-    go x v false = v
+trees_stay start (e ∷ es) =
+    let before = trees_stay start es in
+    let by_call = trees_after e.act (state_of start es) in
+    cond_both e.accepted _ _ (λ (x : State). (x.q ≡ start.q) × (x.t ≡ start.t)) (λ ok. (by_call.0 ∙ before.0, by_call.1 ∙ before.1)) (λ no. before)
 
 -- Every call, whose contract is a function of the state, answers by the opening, the calls, their arguments and which were accepted, so that 13,
 -- 14 and 20 come exactly when these say so.
 pub by_history : {o : Outcome} {s : Session} {h : List Event} → Reached o s h → view s ≡ state_of o.state h
 unfolding state_of
-by_history (opened w) = w.leaves
+by_history (begun r w) = w.leaves
 by_history {o} (called {s} {next} {h} {act} {a} w d) =
     d.leaves ∙ by_event a (after act (view s)) (view s) ∙ ap (λ (x : State). cond (is_accepted a) (after act x) x) (by_history w)
 by_history {o} (looked {s} {h} w l) = by_history w ∙ sym (looked_still l o.state h)
@@ -96,7 +93,7 @@ LastCall o [] = Unit {0}
 LastCall o (e ∷ h) = ((s : Session) × Reached o s h) × (e.accepted ≡ true → grounds (state_of o.state h) e.act ≡ Accepted)
 
 last_call : {o : Outcome} {s : Session} {h : List Event} → Reached o s h → LastCall o h
-last_call (opened w) = tt
+last_call (begun r w) = tt
 last_call {o} (called {s} {next} {h} {act} {a} w d) = ((s, w), λ ok. ap (λ (x : State). grounds x act) (sym (by_history w)) ∙ sym d.answers ∙ was_accepted a ok)
 last_call {o} (looked {s} {h} {act} {a} w l) = ((s, w), λ ok. ap (λ (x : State). grounds x act) (sym (by_history w)) ∙ sym (looked_answer l) ∙ was_accepted a ok)
 

@@ -1,4 +1,4 @@
--- Every seed that a session has, present or withdrawn, maps like to like, said of the nodes of the runs that its texts spell (document 02, c).
+-- Every seed that a session has, present or withdrawn, maps like to like, said of the nodes of the runs that its texts spell.
 use mathlib.Core.Path.{◌≡◌, sym, ap, subst, subst₂}
 use mathlib.Core.List.{List}
 use Prim.Native.Nat.{ℕ, ◌≤◌}

@@ -3,11 +3,7 @@ use mathlib.Core.Path.{◌≡◌, refl, ap, ap₂, ◌∙◌}
 use mathlib.Core.List.{List, []}
 use Prim.Native.Nat.{ℕ, ◌≤◌}
 use native.Mathlib.Omega.{arith}
-use Rattle.answer.specs.Answer.{unless}
-use Rattle.answer.specs.declared.Place.TheVariants.{ByteInQ, ByteInT}
-use Rattle.answer.specs.declared.Answer.{Answer}
-use Rattle.answer.specs.declared.Answer.TheVariants.{Accepted, Refused}
-use Rattle.answer.proofs.Denied.{denies}
+use Rattle.answer.specs.Answer.{unless, Answer, Accepted, Refused}
 use Rattle.tree.specs.Run.{Run, size, lefts}
 use Rattle.tree.specs.Reading.{Spells, Reading, reading, leaves_of, tree_of, single}
 use Rattle.tree.specs.Reading.Reading.{text_accepted, text_refused}
@@ -17,7 +13,6 @@ use Rattle.table.specs.Rows.{Row}
 use Rattle.deck.specs.Deck as deck
 use Rattle.deck.specs.Handed.{rows_in}
 use Rattle.dealing.specs.Texts.{both_of, both_read}
-use Rattle.dealing.specs.declared.texts.TwoTrees.{TwoTrees}
 use Rattle.dealing.specs.Deal.{Deal, deal_by, deal_answer, deal_of}
 use Rattle.chain.specs.State.{State}
 use Rattle.chain.specs.View.{view}
@@ -51,7 +46,7 @@ state_from x = start_with x.q x.t x.rows
 
 deal_accepted : (a : Answer) (whole : Deal) → (deal_by a whole).answer ≡ Accepted → deal_by a whole ≡ whole
 deal_accepted Accepted whole e = refl
-deal_accepted (Refused g p) whole e = absurd (denies {x = Refused g p} refl e)
+deal_accepted (Refused g p) whole e = absurd (cc)
 
 deal_refused : (a : Answer) (whole : Deal) → whole.answer ≡ Accepted → ((deal_by a whole).answer ≡ Accepted → ⊥) → state_from (deal_by a whole) ≡ start_with (tree_of single) (tree_of single) []
 deal_refused Accepted whole e denied = absurd (denied e)
@@ -64,8 +59,8 @@ deck_state q t d ok = ap state_from (deal_accepted (deal_answer q t d) _ ok)
 
 pub opened_state : {o : Outcome} {r p : Run} {rows : List Row} → OpenedOn o r p rows → o.state ≡ start_with (tree_of r) (tree_of p) rows
 unfolding opening deck_opening deal_of both_read
-opened_state (texts q t w v) = ap (λ (x : TwoTrees). start_with x.q x.t []) (both_spelled w v)
-opened_state (deck q t d w v ok) = deck_state q t d ok ∙ ap (λ (x : TwoTrees). start_with x.q x.t (rows_in (deck.deck_reading d))) (both_spelled w v)
+opened_state (texts q t w v) = rw (both_spelled w v)
+opened_state (deck q t d w v ok) = deck_state q t d ok ∙ rw (both_spelled w v)
 opened_state (texts_refused q t denied) = both_refused (reading q) (reading t) denied
 opened_state (refused_deck q t d denied) = deal_refused (deal_answer q t d) _ refl denied
 
@@ -88,8 +83,8 @@ module _ {o : Outcome} {r p : Run} {rows : List Row} (on : OpenedOn o r p rows) 
 -- Every opening is one of these.
 both_accepted : (q t : List ℕ) (x y : Reading) → reading q ≡ x → reading t ≡ y → (both_of x y).answer ≡ Accepted → (r : Run) × (p : Run) × (Spells r q × Spells p t)
 both_accepted q t (text_accepted r) (text_accepted p) e f ok = (r, p, ((accepted_exactly q r).0 e, (accepted_exactly t p).0 f))
-both_accepted q t (text_accepted r) (text_refused g k) e f ok = absurd (denies {x = Refused g (ByteInT k)} refl ok)
-both_accepted q t (text_refused g k) y e f ok = absurd (denies {x = Refused g (ByteInQ k)} refl ok)
+both_accepted q t (text_accepted r) (text_refused g k) e f ok = absurd (cc)
+both_accepted q t (text_refused g k) y e f ok = absurd (cc)
 
 pub every_opening : (q t : List ℕ) → OpenedOnSome (opening q t)
 unfolding opening both_read
@@ -97,11 +92,11 @@ every_opening q t = go (both_read q t).answer refl
   where
     go : (a : Answer) → (both_read q t).answer ≡ a → OpenedOnSome (opening q t)
     go Accepted e = let w = both_accepted q t (reading q) (reading t) refl refl e in (w.0, w.1, [], texts q t w.2.0 w.2.1)
-    go (Refused g p) e = (single, single, [], texts_refused q t (denies e))
+    go (Refused g p) e = (single, single, [], texts_refused q t (λ ok. cc))
 
 texts_accepted : (a b : Answer) (whole : Deal) → (deal_by (unless a b) whole).answer ≡ Accepted → a ≡ Accepted
 texts_accepted Accepted b whole e = refl
-texts_accepted (Refused g p) b whole e = absurd (denies {x = Refused g p} refl e)
+texts_accepted (Refused g p) b whole e = absurd (cc)
 
 pub every_deck_opening : (q t d : List ℕ) → OpenedOnSome (deck_opening q t d)
 unfolding deck_opening deal_of deal_answer both_read
@@ -109,4 +104,4 @@ every_deck_opening q t d = go (deck_opening q t d).answer refl
   where
     go : (a : Answer) → (deck_opening q t d).answer ≡ a → OpenedOnSome (deck_opening q t d)
     go Accepted e = let w = both_accepted q t (reading q) (reading t) refl refl (texts_accepted (both_read q t).answer _ _ e) in (w.0, w.1, rows_in (deck.deck_reading d), deck q t d w.2.0 w.2.1 e)
-    go (Refused g p) e = (single, single, [], refused_deck q t d (denies e))
+    go (Refused g p) e = (single, single, [], refused_deck q t d (λ ok. cc))

@@ -1,4 +1,4 @@
--- How far a rescoring, a withdrawal or a bringing back can move the total (document 02, m), of sessions by the history.
+-- How far a rescoring, a withdrawal or a bringing back can move the total, of sessions by the history.
 use mathlib.Core.Path.{◌≡◌, refl, sym, ap, subst, subst₂, ◌∙◌}
 use mathlib.Core.Bool.{Bool, true, false}
 use mathlib.Core.List.{List, ◌∷◌}
@@ -7,12 +7,13 @@ use lib.IntN.{ℤ, pos, nat_abs, ◌+ℤ◌, ◌-ℤ◌}
 use lib.ListN.{set}
 use lib.Seq.{set-get_or}
 use lib.Signed.{◌≤ℤ◌}
-use Rattle.answer.specs.declared.Answer.{Answer}
-use Rattle.answer.specs.declared.Answer.TheVariants.{Accepted, Refused}
+use Rattle.std.specs.Prelude.{Ok}
+use Rattle.answer.specs.Answer.{Answer, Accepted, Refused}
 use Rattle.tree.specs.Reading.{leaves_of}
 use Rattle.table.specs.Rows.{Row, no_row, row_in, row_of, with_row, with_score}
 use Rattle.optimum.specs.Chain.{Seeds, total, IsBest}
-use Rattle.optimum.specs.OneSeed.{seeds_with_score, seeds_with_presence, greater_of}
+use Rattle.std.specs.Int.{int_max}
+use Rattle.optimum.specs.OneSeed.{seeds_with_score, seeds_with_presence}
 use Rattle.optimum.proofs.OneSeed.{raised, lowered, absent_scored, withdrawn, brought_back}
 use Rattle.best.specs.Best.{seeds_of, named}
 use Rattle.best.specs.declared.Best.{Best}
@@ -55,19 +56,19 @@ module _ {start : State} {h later : List Event} (q : UnmovedSince start h later)
 -- ---- the best total before and after a call
 
 -- Best chain, one accepted call and best chain again, with the contracts that the three have.
-pub asked_around : {o : Outcome} {s next : Session} {h : List Event} {act : Act} {before after before' after' : List ℕ} {r r' : Best} → Reached o s h
-    → Chains (view s) before after r → r.answer ≡ Accepted
+pub asked_around : {o : Outcome} {s next : Session} {h : List Event} {act : Act} {before after before' after' : List ℕ} {best best' : Best} → Reached o s h
+    → Chains (view s) before after (Ok best)
     → Does s act Accepted next
-    → Chains (view next) before' after' r' → r'.answer ≡ Accepted
-    → AskedAround o h act r.total r'.total
-asked_around {h = h} {act = act} w c ok d c' ok' =
+    → Chains (view next) before' after' (Ok best')
+    → AskedAround o h act best.total best'.total
+asked_around {h = h} {act = act} w c d c' =
     record {
       history_before = h;
       history_after = event act Accepted ∷ h;
-      total_before = asked w c ok;
+      total_before = asked w c;
       unmoved_before = at_once;
       unmoved_after = at_once;
-      total_after = asked (called w d) c' ok';
+      total_after = asked (called w d) c';
     }
 
 -- A best chain of these seeds has this total.
@@ -77,10 +78,10 @@ record BestTotal (S : Seeds) (n : ℕ) : Type 0 where
   total_is : pos n ≡ total S set
 
 best_total : {o : Outcome} {h : List Event} {n : ℕ} → TotalBy o h n → BestTotal (seeds_in (state_of o.state h)) n
-best_total (asked {s} {before} {after} {r} w c ok) = let b = demand_3 w before after r c ok in record { set = named r; best = b.chain_best; total_is = b.total_is }
+best_total (asked {s} {before} {after} {best} w c) = let b = demand_3 w before after best c in record { set = named best; best = b.chain_best; total_is = b.total_is }
 
 session_asked : {o : Outcome} {h : List Event} {n : ℕ} → TotalBy o h n → (s : Session) × Reached o s h
-session_asked (asked {s} w c ok) = (s, w)
+session_asked (asked {s} w c) = (s, w)
 
 unmoved_rows : {start : State} {h later : List Event} → UnmovedSince start h later → (state_of start later).rows ≡ (state_of start h).rows
 unmoved_rows at_once = refl
@@ -150,11 +151,11 @@ module _ {o : Outcome} {h : List Event} {k n n' : ℕ} where
   rescoring_withdrawn {z} a gone = ap nat_abs (answered a (λ u v. v ≡ u) (λ f f' x y. absent_scored x y (k - 1) z (one_score a) gone))
 
   -- Withdrawing a seed of score s lowers the total by no more than the greater of s and 0, and never raises it.
-  pub withdrawing : AskedAround o h (withdraw k) n n' → ((pos n -ℤ greater_of (row_by o h k).score (pos 0)) ≤ℤ pos n') × (pos n' ≤ℤ pos n)
+  pub withdrawing : AskedAround o h (withdraw k) n n' → ((pos n -ℤ int_max (row_by o h k).score (pos 0)) ≤ℤ pos n') × (pos n' ≤ℤ pos n)
   unfolding row_of
-  withdrawing a = answered a (λ u v. ((u -ℤ greater_of (row_by o h k).score (pos 0)) ≤ℤ v) × (v ≤ℤ u)) (λ f f' x y. withdrawn x y (k - 1) (one_presence k false a))
+  withdrawing a = answered a (λ u v. ((u -ℤ int_max (row_by o h k).score (pos 0)) ≤ℤ v) × (v ≤ℤ u)) (λ f f' x y. withdrawn x y (k - 1) (one_presence k false a))
 
   -- Bringing it back raises the total by no less than 0 and no more than that.
-  pub bringing_back : AskedAround o h (bring_back k) n n' → (pos n ≤ℤ pos n') × (pos n' ≤ℤ (pos n +ℤ greater_of (row_by o h k).score (pos 0)))
+  pub bringing_back : AskedAround o h (bring_back k) n n' → (pos n ≤ℤ pos n') × (pos n' ≤ℤ (pos n +ℤ int_max (row_by o h k).score (pos 0)))
   unfolding row_of
-  bringing_back a = answered a (λ u v. (u ≤ℤ v) × (v ≤ℤ (u +ℤ greater_of (row_by o h k).score (pos 0)))) (λ f f' x y. brought_back x y (k - 1) (one_presence k true a) (presence_known k true a).was)
+  bringing_back a = answered a (λ u v. (u ≤ℤ v) × (v ≤ℤ (u +ℤ int_max (row_by o h k).score (pos 0)))) (λ f f' x y. brought_back x y (k - 1) (one_presence k true a) (presence_known k true a).was)

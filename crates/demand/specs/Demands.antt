@@ -1,7 +1,8 @@
 -- What demands 2 and 3 say of the calls that a user makes, of the state by the history.
-use Rattle.std.specs.Prelude.{◌≡◌, ◌↔◌, List, [], ℕ, ◌+◌, ◌<◌, length, ℤ}
-use Rattle.answer.specs.declared.Answer.{Answer}
-use Rattle.answer.specs.declared.Answer.TheVariants.{Accepted}
+use Rattle.std.specs.Prelude.{◌≡◌, ◌↔◌, List, [], ℕ, ◌+◌, ◌<◌, length, ℤ, Result, IfOk}
+use Rattle.answer.specs.Refusal.{answer_in}
+use Rattle.answer.specs.Answer.{Accepted}
+use Rattle.answer.specs.declared.Refusal.{Refusal}
 use Rattle.tree.specs.Run.{Run, lefts}
 use Rattle.tree.specs.Reading.{Spells, leaves_of, tree_of, single}
 use Rattle.write.specs.Wrote.{with_bytes}
@@ -9,7 +10,6 @@ use Rattle.seed.specs.Area.{Box}
 use Rattle.seed.specs.AreaList.{bytes_of}
 use Rattle.seed.specs.declared.Pair.{Pair}
 use Rattle.area.specs.PaperOrder.{AreasInOrder}
-use Rattle.area.specs.declared.Listed.{Listed}
 use Rattle.area.specs.declared.Order.{Order}
 use Rattle.table.specs.Rows.{Row, row_of}
 use Rattle.adding.specs.Adding.{Addable}
@@ -26,17 +26,16 @@ pub record Takes (s : State) (ps : List Pair) (z : ℤ) : Type 0 where
   pub addable : Addable s.q s.t s.rows ps z
   pub room : s.changes < 1000000
 
--- An add in this state answers so and gives this number: the one after the last, and 0 beside a refusal.
-pub record AddsRight (s : State) (ps : List Pair) (z : ℤ) (answer : Answer) (number : ℕ) : Type 0 where
-  pub exactly : (answer ≡ Accepted) ↔ Takes s ps z
-  pub given : answer ≡ Accepted → number ≡ length s.rows + 1
-  pub none : (answer ≡ Accepted → ⊥) → number ≡ 0
+-- An add in this state is accepted exactly if the state takes the list, and gives the number after the last; a refusal gives none.
+pub record AddsRight (s : State) (ps : List Pair) (z : ℤ) (r : Result ℕ Refusal) : Type 0 where
+  pub exactly : (answer_in r ≡ Accepted) ↔ Takes s ps z
+  pub given : IfOk r (λ number. number ≡ length s.rows + 1)
 
 -- What an accepted listing answers and leaves in the output: how many open areas the row of number k has, and their bytes, in the order asked for.
-pub record ListsAreas (s : State) (order : Order) (k : ℕ) (before after : List ℕ) (r : Listed) : Type 0 where
+pub record ListsAreas (s : State) (order : Order) (k : ℕ) (before after : List ℕ) (listed : ℕ) : Type 0 where
   pub boxes : List Box
   pub are : AreasInOrder order (leaves_of s.q) (leaves_of s.t) (row_of s.rows k).pairs boxes
-  pub count : r.count ≡ length boxes
+  pub count : listed ≡ length boxes
   pub output : after ≡ with_bytes (bytes_of boxes) before
 
 -- An outcome is that of an opening on two texts that these runs spell: without a deck, or with an accepted one, whose rows these are. A refused

@@ -1,10 +1,12 @@
--- The starred examples of document 01 as document 02 (c) changes them, those of a text without structure (document 02, f), of WUSS characters
--- (document 02, b), of nodes of each kind (document 02, c) and of areas in both orders (document 02, e), as rows of one list: what the definitions give, and what the documents say.
-use Rattle.std.specs.Prelude.{◌≡◌, Bool, true, false, cond, List, [], ◌∷◌, map, ℕ, zero, suc, take, pos, negsuc}
+-- The worked examples, as rows of lists: what the definitions give, and what is wanted. First the starred ones, then those of texts without
+-- structure, of WUSS characters, of nodes of each kind and of areas in both orders.
+use Rattle.std.specs.Prelude.{◌≡◌, Bool, true, false, cond, List, [], ◌∷◌, map, ℕ, zero, suc, take, pos, negsuc, Result, Ok, Err}
 use Rattle.answer.specs.Answer.{Said, said}
 use Rattle.answer.specs.Answer.Said.{accepted, refused}
+use Rattle.answer.specs.Refusal.{result_of}
 use Rattle.answer.specs.declared.Place.TheVariants.{ByteInQ, ByteInT, Seed}
 use Rattle.write.specs.Decimal.{bytes}
+use Rattle.answer.specs.declared.Refusal.{Refusal}
 use Rattle.tree.specs.Reading.{leaves_of, node_kinds_of}
 use Rattle.tree.specs.declared.Tree.{Tree}
 use Rattle.stretch.specs.Stretch.{check_of, part_of}
@@ -19,7 +21,7 @@ use Rattle.best.specs.declared.Best.{Best}
 use Rattle.chain.specs.State.{State}
 use Rattle.chain.specs.Acts.{Act, add, rescore, withdraw, best_chain, grounds, step, areas_of, areas_in, deck_of}
 use Rattle.chain.specs.Opening.{opening, deck_opening}
-use Rattle.chain.specs.Looking.{best_by, key_in}
+use Rattle.chain.specs.Looking.{best_in}
 
 -- A is `(.(.)).` and B is `(.)(.)`; A is Q and B is T.
 abbrev pub A : List ℕ
@@ -56,11 +58,12 @@ numbers_from n [] = []
 numbers_from n (true ∷ bs) = n ∷ numbers_from (suc n) bs
 numbers_from n (false ∷ bs) = numbers_from (suc n) bs
 
-abbrev pub answered : State → Best
-answered s = best_by (grounds s (best_chain scratch_needed)) (key_in s)
+abbrev pub total_and_numbers : Result Best Refusal → List ℕ
+total_and_numbers (Ok best) = best.total ∷ numbers_from 1 best.chain
+total_and_numbers (Err refusal) = []
 
 abbrev pub total_and_chain : State → List ℕ
-total_and_chain s = (answered s).total ∷ numbers_from 1 (answered s).chain
+total_and_chain s = total_and_numbers (result_of (grounds s (best_chain scratch_needed)) (best_in s))
 
 -- The five seeds handed in, of which the second is turned down: the other four are numbered 1 to 4. Then seed 3 rescored to 4; then 2 withdrawn.
 abbrev pub four_of_five : State → State
@@ -72,7 +75,7 @@ three_rescored = doing (four_of_five on_ab) (rescore 3 (pos 4))
 abbrev pub two_withdrawn : State
 two_withdrawn = doing three_rescored (withdraw 2)
 
--- An example: what the definitions give, and what the document says.
+-- An example: what the definitions give, and what is wanted.
 pub data Example : Type 0 where
   says : Said → Said → Example
   lists : List ℕ → List ℕ → Example
@@ -195,7 +198,7 @@ of_each_kind =
     ∷ says (adding on_pair_and_dot (one 1 1)) accepted
     ∷ []
 
--- Areas in both orders (document 02, e). On `.(.).(.).` twice, the pairs (2,2) and (5,5) stand side by side under (7,7), with a gap on either side and
+-- Areas in both orders. On `.(.).(.).` twice, the pairs (2,2) and (5,5) stand side by side under (7,7), with a gap on either side and
 -- one between. On `.(.(.).).` twice, (3,3) stands under (5,5), which stands under (7,7): each of the upper two has a left gap and a right one.
 abbrev pub same_twice : List ℕ → List Pair → State
 same_twice q ps = doing (opening q q).state (add ps (pos 0))
@@ -217,7 +220,7 @@ in_paper_order =
     ∷ lists (bytes_of (areas_in Paper side_by_side 1)) (1 ∷ 1 ∷ 1 ∷ 1 ∷ 4 ∷ 4 ∷ 4 ∷ 4 ∷ 6 ∷ 6 ∷ 6 ∷ 6 ∷ 3 ∷ 3 ∷ 3 ∷ 3 ∷ 0 ∷ 0 ∷ 0 ∷ 0 ∷ [])
     ∷ lists (beginnings (areas_in Paper one_in_another 1)) (2 ∷ 4 ∷ 1 ∷ 6 ∷ 0 ∷ [])
     ∷ lists (beginnings (areas_in RisingA one_in_another 1)) (0 ∷ 1 ∷ 2 ∷ 4 ∷ 6 ∷ [])
-    -- Document 01's two areas are under one pair each, and stand alike in both orders.
+    -- The two areas of the starred seed are under one pair each, and stand alike in both orders.
     ∷ lists (bytes_of (areas_in Paper (doing on_ab (add (two 3 1 5 4) (pos 0))) 1)) (0 ∷ 2 ∷ 0 ∷ 0 ∷ 4 ∷ 4 ∷ 2 ∷ 3 ∷ [])
     ∷ []
 

@@ -1,8 +1,7 @@
--- A session's history (document 01): the calls of a list with their arguments and whether each was accepted, and the state that they give.
+-- A session's history: the calls of a list with their arguments and whether each was accepted, and the state that they give.
 -- Nothing here comes from a session's fields.
 use Rattle.std.specs.Prelude.{Bool, cond, List, [], ◌∷◌}
-use Rattle.answer.specs.Answer.{is_accepted}
-use Rattle.answer.specs.declared.Answer.{Answer}
+use Rattle.answer.specs.Answer.{is_accepted, Answer}
 use Rattle.chain.specs.State.{State}
 use Rattle.chain.specs.Acts.{Act, after}
 

@@ -1,6 +1,6 @@
--- Best chain asked before and after one call, for how far that call can move the total (document 02, m).
-use Rattle.std.specs.Prelude.{◌≡◌, List, ◌∷◌, ℕ}
-use Rattle.answer.specs.declared.Answer.TheVariants.{Accepted}
+-- Best chain asked before and after one call, for how far that call can move the total.
+use Rattle.std.specs.Prelude.{◌≡◌, List, ◌∷◌, ℕ, Ok}
+use Rattle.answer.specs.Answer.{Accepted}
 use Rattle.table.specs.Rows.{Row, row_of}
 use Rattle.best.specs.declared.Best.{Best}
 use Rattle.chain.specs.State.{State}
@@ -14,7 +14,7 @@ use Rattle.demand.specs.Reached.{Reached}
 
 -- The total that an accepted best chain answers of a session which a list of calls with this history handed over.
 pub data TotalBy (o : Outcome) (h : List Event) : ℕ → Type 0 where
-  asked : {s : Session} {before after : List ℕ} {r : Best} → Reached o s h → Chains (view s) before after r → r.answer ≡ Accepted → TotalBy o h r.total
+  asked : {s : Session} {before after : List ℕ} {best : Best} → Reached o s h → Chains (view s) before after (Ok best) → TotalBy o h best.total
 
 -- A history goes on from h by calls that move no seed and no score: each leaves the rows as they were.
 pub data UnmovedSince (start : State) (h : List Event) : List Event → Type 0 where

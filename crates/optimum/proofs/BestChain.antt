@@ -1,17 +1,18 @@
--- The best key is that of the best chain, in document 01's words, and a best chain is the only one.
+-- The best key is that of the best chain, as `IsBest` has it, and a best chain is the only one.
 use mathlib.Core.Path.{◌≡◌, refl, sym, ap, subst, ◌∙◌, fun_ext}
 use mathlib.Core.Bool.{Bool, false, ◌&&◌}
 use mathlib.Core.Logic.{◌⊎◌, inl, inr}
-use Prim.Native.Nat.{ℕ, suc, ◌≤◌, ◌<◌}
+use Prim.Native.Nat.{ℕ, ◌≤◌, ◌<◌}
 use native.Mathlib.Omega.{arith}
-use lib.Dec.{T, T_not, not_T, ltb, ltb→lt, nltb→le}
-use lib.Signed.{◌≤ℤ◌, ≤ℤ_refl}
+use lib.Dec.{T, T_not, not_T}
+use Rattle.std.proofs.lemmas.Bool.{cases_order}
+use lib.Signed.{◌≤ℤ◌}
+use Rattle.std.proofs.lemmas.Int.{ints}
 use Rattle.optimum.specs.Chain.{Seeds, Chain, total, Wins, IsBest}
 use Rattle.optimum.specs.Key.{Key, in_mask, seed_key}
 use Rattle.optimum.specs.Best.{best}
 use Rattle.optimum.specs.inner.Table.{Numbered}
-use Rattle.optimum.proofs.Booleans.{Is, yes, no, is, T-neq, T-ext, and_i, and_l, and_r}
-use Rattle.optimum.proofs.WholeNumbers.{no_gap, gap_le, le_antisym}
+use Rattle.optimum.proofs.Booleans.{T-neq, T-ext, and_i, and_l, and_r}
 use Rattle.optimum.proofs.Keys.{◌≼◌, more, same}
 use Rattle.optimum.proofs.Chains.{value, value_cong, best_upper, Attained, best_attained}
 use Rattle.optimum.proofs.Masks.{mask_tie, mask_bit}
@@ -81,18 +82,15 @@ module _ (S : Seeds) (number : ℕ → ℕ) (c : ℕ → ℕ → Bool) (w : ℕ 
       place i t = named_only number attained.set n i t
 
       any_two : (i j : ℕ) → (i ≡ j → ⊥) → Position number attained.set n i → Position number attained.set n j → S.Chainable i j
-      any_two i j ne a b = go (is (ltb a.at b.at)) (is (ltb b.at a.at))
+      any_two i j ne a b = go (cases_order a.at b.at)
         where
-          go : Is (ltb a.at b.at) → Is (ltb b.at a.at) → S.Chainable i j
-          go (yes l) r =
-              let h = ltb→lt a.at b.at l in
-              rw (← a.numbered, ← b.numbered) (L.chainable a.at b.at h b.below (attained.pairwise a.at b.at h a.inside b.inside))
-          go (no l) (yes r) =
-              let h = ltb→lt b.at a.at r in
-              rw (← a.numbered, ← b.numbered) (L.symmetric (number b.at) (number a.at) (L.chainable b.at a.at h a.below (attained.pairwise b.at a.at h b.inside a.inside)))
-          go (no l) (no r) =
-              let e : a.at ≡ b.at = omega (arith, nltb→le a.at b.at l, nltb→le b.at a.at r) in
-              absurd (ne (sym a.numbered ∙ ap number e ∙ b.numbered))
+          in_order : (c d : ℕ) → c < d → d < n → T (attained.set c) → T (attained.set d) → S.Chainable (number c) (number d)
+          in_order c d h l s t = L.chainable c d h l (attained.pairwise c d h s t)
+
+          go : (a.at ≡ b.at) ⊎ ((a.at < b.at) ⊎ (b.at < a.at)) → S.Chainable i j
+          go (inl e) = absurd (ne (sym a.numbered ∙ ap number e ∙ b.numbered))
+          go (inr (inl h)) = rw (← a.numbered, ← b.numbered) (in_order a.at b.at h b.below a.inside b.inside)
+          go (inr (inr h)) = rw (← a.numbered, ← b.numbered) (L.symmetric (number b.at) (number a.at) (in_order b.at a.at h a.below b.inside a.inside))
 
   chosen_best : IsBest S chosen
   chosen_best = record { chain = chosen_chain; greatest = λ g h. greatest g (above g h); tie = λ g h e. tie g h e (above g h) }
@@ -104,14 +102,14 @@ module _ (S : Seeds) (number : ℕ → ℕ) (c : ℕ → ℕ → Bool) (w : ℕ 
       totals g = value_total S.score g S.count
 
       greatest : (g : ℕ → Bool) → valued g ≼ valued chosen → total S g ≤ℤ total S chosen
-      greatest g (more k e) = gap_le (total S g) (total S chosen) (suc k) (rw (totals g, totals chosen) at e)
-      greatest g (same e m) = rw (sym (totals g) ∙ sym e ∙ totals chosen) (≤ℤ_refl (total S chosen))
+      greatest g (more l) = omega (arith, ints, totals g, totals chosen)
+      greatest g (same e m) = omega (arith, ints, totals g, totals chosen)
 
       beyond : (g : ℕ → Bool) → Chain S g → (i : ℕ) → S.count ≤ i → g i ≡ false
       beyond g h i b = T-neq (not_T (g i) (λ t. omega (arith, h.given i t)))
 
       tie : (g : ℕ → Bool) → Chain S g → total S g ≡ total S chosen → valued g ≼ valued chosen → ((i : ℕ) → chosen i ≡ g i) ⊎ Wins chosen g
-      tie g h q (more k e) = absurd (no_gap (valued g).total k (totals g ∙ q ∙ sym (totals chosen) ∙ e))
+      tie g h q (more l) = absurd (omega (arith, ints, totals g, totals chosen))
       tie g h q (same e m) =
           mask_tie chosen g S.count (λ i b. beyond chosen chosen_chain i b ∙ sym (beyond g h i b))
           (omega (arith, value_mask S.score chosen S.count, value_mask S.score g S.count))
@@ -134,21 +132,19 @@ module _ (S : Seeds) (number : ℕ → ℕ) (c : ℕ → ℕ → Bool) (w : ℕ 
 -- ---- the best chain is one
 
 not_both : (f g : ℕ → Bool) → Wins f g → Wins g f → ⊥
-not_both f g a b = go (is (ltb a.highest b.highest)) (is (ltb b.highest a.highest))
+not_both f g a b = go (cases_order a.highest b.highest)
   where
-    go : Is (ltb a.highest b.highest) → Is (ltb b.highest a.highest) → ⊥
-    go (yes l) r = T_not (g b.highest) b.without (subst T (a.above b.highest (ltb→lt a.highest b.highest l)) b.other_has)
-    go (no l) (yes r) = T_not (f a.highest) a.without (subst T (b.above a.highest (ltb→lt b.highest a.highest r)) a.other_has)
-    go (no l) (no r) =
-        let e : a.highest ≡ b.highest = omega (arith, nltb→le a.highest b.highest l, nltb→le b.highest a.highest r) in
-        T_not (f a.highest) a.without (rw e b.other_has)
+    go : (a.highest ≡ b.highest) ⊎ ((a.highest < b.highest) ⊎ (b.highest < a.highest)) → ⊥
+    go (inl e) = T_not (f a.highest) a.without (rw e b.other_has)
+    go (inr (inl l)) = T_not (g b.highest) b.without (subst T (a.above b.highest l) b.other_has)
+    go (inr (inr l)) = T_not (f a.highest) a.without (subst T (b.above a.highest l) a.other_has)
 
 -- Two sets that are best are the same set.
 pub best_unique : (S : Seeds) (f g : ℕ → Bool) → IsBest S f → IsBest S g → (i : ℕ) → f i ≡ g i
 best_unique S f g a b = go (a.tie g b.chain (sym e)) (b.tie f a.chain e)
   where
     e : total S f ≡ total S g
-    e = le_antisym (total S f) (total S g) (b.greatest f a.chain) (a.greatest g b.chain)
+    e = omega (arith, ints, b.greatest f a.chain, a.greatest g b.chain)
 
     go : ((i : ℕ) → f i ≡ g i) ⊎ Wins f g → ((i : ℕ) → g i ≡ f i) ⊎ Wins g f → (i : ℕ) → f i ≡ g i
     go (inl h) r i = h i

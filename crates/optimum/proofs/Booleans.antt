@@ -3,7 +3,9 @@ use mathlib.Core.Path.{◌≡◌, refl, subst}
 use mathlib.Core.Bool.{Bool, true, false, not, ◌&&◌, ◌||◌}
 use Prim.Native.Nat.{ℕ, suc, ◌<◌}
 use native.Mathlib.Omega.{arith}
-use lib.Dec.{T, T_not, not_T, ltb, ltb→lt, nltb→le, eqb, eqb→eq, eqb_refl}
+use mathlib.Core.Logic.{inl, inr}
+use lib.Dec.{T}
+use Rattle.std.proofs.lemmas.Bool.{cases_eq}
 
 -- A test with what it says, for a case on it.
 pub data Is (b : Bool) : Type 0 where
@@ -53,16 +55,6 @@ pub or_e : {X : Type 0} (a b : Bool) → (T a → X) → (T b → X) → T (a ||
 or_e true b f g t = f tt
 or_e false b f g t = g t
 
-pub eqb_not : (k i : ℕ) → (k ≡ i → ⊥) → T (not (eqb k i))
-eqb_not k i h = not_T (eqb k i) (λ t. h (eqb→eq k i t))
-
-pub not_eqb : (k i : ℕ) → T (not (eqb k i)) → k ≡ i → ⊥
-not_eqb k i t e = T_not (eqb k i) t (subst (λ x. T (eqb k x)) e (eqb_refl k))
-
 -- What holds below n, and of n, holds below the next.
 pub up_to : {P : ℕ → Type 0} (n : ℕ) → ((i : ℕ) → i < n → P i) → P n → (i : ℕ) → i < suc n → P i
-up_to {P} n h here i b = go (is (ltb i n))
-  where
-    go : Is (ltb i n) → P i
-    go (yes t) = h i (ltb→lt i n t)
-    go (no t) = let e : n ≡ i = omega (arith, nltb→le i n t) in subst P e here
+up_to {P} n h here i b = elim (cases_eq n i) [ inl e ↦ subst P e here | inr ne ↦ h i (omega arith) ]

@@ -7,11 +7,11 @@ use native.Mathlib.Omega.{arith}
 use lib.IntN.{ℤ, pos}
 use lib.Dec.{T, leb→le}
 use lib.Signed.{◌≤ℤ◌}
+use Rattle.std.proofs.lemmas.Int.{ints}
 use Rattle.optimum.specs.Chain.{total_of}
 use Rattle.optimum.specs.Key.{Key, empty, ◌⊕◌, better, mask_of, seed_key}
 use Rattle.optimum.specs.inner.Table.{Items, items_chainable, best_among, Laws, Limited, with_under, max_below, KeysUnder, KeyRow, stored, Small}
 use Rattle.optimum.proofs.Booleans.{Is, yes, no, is, and_l, or_r}
-use Rattle.optimum.proofs.WholeNumbers.{gap_le, le_trans, le_add}
 use Rattle.optimum.proofs.Keys.{empty_⊕, better_ind}
 use Rattle.optimum.proofs.Chains.{value, value_in, value_out, Attained, skipped, kept, weakened, best_attained}
 use Rattle.optimum.proofs.Split.{Down, under_and_left}
@@ -23,15 +23,15 @@ use Rattle.optimum.proofs.Numbers.{named, value_total, value_mask, fewer, value_
 
 value_total_most : (w : ℕ → Key) (most : ℕ) (f : ℕ → Bool) (n : ℕ) → ((k : ℕ) → k < n → (w k).total ≤ℤ pos most) → (value w f n).total ≤ℤ pos (n * most)
 unfolding value empty ◌⊕◌
-value_total_most w most f zero h = gap_le (pos 0) (pos (0 * most)) 0 (ap pos (omega arith))
+value_total_most w most f zero h = omega (arith, ints)
 value_total_most w most f (suc n) h = go (is (f n)) (value_total_most w most f n (λ k b. h k (omega arith)))
   where
     sum : suc n * most ≡ most + n * most
     sum = omega arith
 
     go : Is (f n) → (value w f n).total ≤ℤ pos (n * most) → (value w f (suc n)).total ≤ℤ pos (suc n * most)
-    go (yes t) lower = rw (sum, value_in w f n t) (le_add (w n).total (pos most) (value w f n).total (pos (n * most)) (h n (omega arith)) lower)
-    go (no t) lower = rw (sum, value_out w f n t) (le_trans (value w f n).total (pos (n * most)) (pos (most + n * most)) lower (gap_le (pos (n * most)) (pos (most + n * most)) most (ap pos (omega arith))))
+    go (yes t) lower = rw (sum, value_in w f n t) (omega (arith, ints, h n (omega arith)))
+    go (no t) lower = rw (sum, value_out w f n t) (omega (arith, ints))
 
 pub total_most : (score : ℕ → ℤ) (most : ℕ) (f : ℕ → Bool) (n : ℕ) → ((k : ℕ) → k < n → score k ≤ℤ pos most) → total_of score f n ≤ℤ pos (n * most)
 total_most score most f n h = subst (λ (t : ℤ). t ≤ℤ pos (n * most)) (value_total score f n) (value_total_most (seed_key score) most f n h)

@@ -4,9 +4,10 @@ use mathlib.Core.Bool.{Bool, false, not, cond, ◌&&◌, ◌||◌}
 use Prim.Native.Nat.{ℕ, zero, suc, ◌<◌}
 use native.Mathlib.Omega.{arith}
 use lib.Dec.{T, not_T, eqb, eqb→eq, eqb_refl}
+use Rattle.std.proofs.lemmas.Bool.{ne_eqb}
 use Rattle.optimum.specs.Key.{Key, empty, ◌⊕◌, better}
 use Rattle.optimum.specs.Best.{best}
-use Rattle.optimum.proofs.Booleans.{Is, yes, no, is, T-eq, T-neq, and_i, and_l, and_r, or_l, or_e, eqb_not}
+use Rattle.optimum.proofs.Booleans.{Is, yes, no, is, T-eq, T-neq, and_i, and_l, and_r, or_l, or_e}
 use Rattle.optimum.proofs.Keys.{◌≼◌, ≼_refl, ≼_trans, ≼-mono, better_l, better_r, better_ind}
 
 -- ---- the key of a set of items: the sum of their worths
@@ -103,7 +104,7 @@ module _ (c : ℕ → ℕ → Bool) (w : ℕ → Key) where
         pairwise = λ i j l s r. or_e (eqb n j) (a.set j) (λ e. last i j l s (eqb→eq n j e)) (λ r'. earlier i j l s r') r;
         worth =
             value_in w set n (or_l (eqb n n) (a.set n) (eqb_refl n))
-            ∙ ap (λ v. w n ⊕ v) (value_cong w set a.set n (λ i b. rw (T-neq {b = eqb n i} (eqb_not n i (λ e. omega arith)))) ∙ a.worth);
+            ∙ ap (λ v. w n ⊕ v) (value_cong w set a.set n (λ i b. rw (ne_eqb n i (λ e. omega arith))) ∙ a.worth);
       }
     where
       set : ℕ → Bool

@@ -1,14 +1,15 @@
 -- The order of keys and its laws.
 use mathlib.Core.Path.{◌≡◌, refl, sym, ap, ◌∙◌}
 use mathlib.Core.Bool.{Bool, true, false, not, cond}
-use Prim.Native.Nat.{ℕ, suc, ◌+◌, ◌≤◌}
+use Prim.Native.Nat.{◌≤◌}
 use native.Mathlib.Omega.{arith}
 use native.Mathlib.Nat.{le_refl}
-use lib.IntN.{ℤ, pos, ◌+ℤ◌, +ℤ_assoc, +ℤ_comm, +ℤ_idr}
+use lib.IntN.{ℤ, ◌+ℤ◌, +ℤ_assoc, +ℤ_comm, +ℤ_idr}
 use lib.Dec.{T, leb, leb→le, nleb→lt}
-use lib.Signed.{lt_z}
+use lib.Signed.{lt_z, ◌<ℤ◌, lt_z_yes}
+use Rattle.std.proofs.lemmas.Bool.{cond_both}
+use Rattle.std.proofs.lemmas.Int.{ints}
 use Rattle.optimum.specs.Key.{Key, empty, ◌⊕◌, no_better, better}
-use Rattle.optimum.proofs.WholeNumbers.{lt_gap, lt_not, no_gap, two_gaps}
 
 -- ---- keys add
 
@@ -37,37 +38,34 @@ pub ⊕-swap : (a b c : Key) → a ⊕ (b ⊕ c) ≡ b ⊕ (a ⊕ c)
 
 infix 50 ◌≼◌
 pub data ◌≼◌ (a b : Key) : Type 0 where
-  more : (n : ℕ) → b.total ≡ a.total +ℤ pos (suc n) → a ≼ b
+  more : a.total <ℤ b.total → a ≼ b
   same : b.total ≡ a.total → b.mask ≤ a.mask → a ≼ b
 
 pub ≼_refl : (a : Key) → a ≼ a
 ≼_refl a = same refl (le_refl a.mask)
 
 pub ≼_trans : {a b c : Key} → a ≼ b → b ≼ c → a ≼ c
-≼_trans {a} (more n e) (more m f) = more (n + suc m) (two_gaps a.total n m e f)
-≼_trans (more n e) (same f g) = more n (f ∙ e)
-≼_trans (same e g) (more m f) = more m (rw e at f)
+≼_trans (more h) (more k) = more (omega (arith, ints))
+≼_trans (more h) (same f g) = more (omega (arith, ints))
+≼_trans (same e g) (more k) = more (omega (arith, ints))
 ≼_trans (same e g) (same f h) = same (f ∙ e) (omega arith)
 
 pub ≼-antisym : {a b : Key} → a ≼ b → b ≼ a → a ≡ b
-≼-antisym {a} {b} (more n e) (more m f) = absurd (no_gap a.total (n + suc m) (two_gaps a.total n m e f))
-≼-antisym {a} {b} (more n e) (same f g) = absurd (no_gap a.total n (f ∙ e))
-≼-antisym {a} {b} (same e g) (more m f) = absurd (no_gap b.total m (e ∙ f))
+≼-antisym (more h) (more k) = absurd (omega (arith, ints))
+≼-antisym (more h) (same f g) = absurd (omega (arith, ints))
+≼-antisym (same e g) (more k) = absurd (omega (arith, ints))
 ≼-antisym (same e g) (same f h) = key_eq f (omega arith)
 
 pub ≼-mono : {a b : Key} (c : Key) → a ≼ b → c ⊕ a ≼ c ⊕ b
 unfolding ◌⊕◌
-≼-mono {a} c (more n e) = more n (ap (λ (t : ℤ). c.total +ℤ t) e ∙ sym (+ℤ_assoc c.total a.total (pos (suc n))))
+≼-mono c (more h) = more (omega (arith, ints))
 ≼-mono c (same e g) = same (ap (λ (t : ℤ). c.total +ℤ t) e) (omega arith)
 
 -- ---- the test
 
-more_of : {a b : Key} → T (lt_z a.total b.total) → a ≼ b
-more_of {a} {b} t = let g = lt_gap a.total b.total t in more g.0 g.1
-
 test_yes : {a b : Key} → T (no_better a b) → a ≼ b
 unfolding no_better
-test_yes {a} {b} t = go (lt_z a.total b.total) (lt_z b.total a.total) more_of (λ h k. lt_not b.total a.total k h) t
+test_yes {a} {b} t = go (lt_z a.total b.total) (lt_z b.total a.total) (λ h. more (lt_z_yes h)) (λ h k. omega (arith, ints)) t
   where
     go : (x y : Bool) → (T x → a ≼ b) → (T (not x) → T (not y) → b.total ≡ a.total) → T (cond x true (cond y false (leb b.mask a.mask))) → a ≼ b
     go true y f g t = f tt
@@ -76,7 +74,7 @@ test_yes {a} {b} t = go (lt_z a.total b.total) (lt_z b.total a.total) more_of (�
 
 test_no : {a b : Key} → T (not (no_better a b)) → b ≼ a
 unfolding no_better
-test_no {a} {b} t = go (lt_z a.total b.total) (lt_z b.total a.total) more_of (λ h k. lt_not a.total b.total h k) t
+test_no {a} {b} t = go (lt_z a.total b.total) (lt_z b.total a.total) (λ h. more (lt_z_yes h)) (λ h k. omega (arith, ints)) t
   where
     go : (x y : Bool) → (T y → b ≼ a) → (T (not x) → T (not y) → a.total ≡ b.total) → T (not (cond x true (cond y false (leb b.mask a.mask)))) → b ≼ a
     go true y f g t = absurd t
@@ -87,27 +85,15 @@ test_no {a} {b} t = go (lt_z a.total b.total) (lt_z b.total a.total) more_of (λ
 
 pub better_ind : (P : Key → Type 0) (a b : Key) → P a → P b → P (better a b)
 unfolding better
-better_ind P a b p q = go (no_better a b)
-  where
-    go : (x : Bool) → P (cond x b a)
-    go true = q
-    go false = p
+better_ind P a b p q = cond_both (no_better a b) b a P (λ e. q) (λ e. p)
 
 pub better_l : (a b : Key) → a ≼ better a b
 unfolding better
-better_l a b = go (no_better a b) test_yes
-  where
-    go : (x : Bool) → (T x → a ≼ b) → a ≼ cond x b a
-    go true f = f tt
-    go false f = ≼_refl a
+better_l a b = cond_both (no_better a b) b a (λ x. a ≼ x) (λ e. test_yes (rw e tt)) (λ e. ≼_refl a)
 
 pub better_r : (a b : Key) → b ≼ better a b
 unfolding better
-better_r a b = go (no_better a b) test_no
-  where
-    go : (x : Bool) → (T (not x) → b ≼ a) → b ≼ cond x b a
-    go true f = ≼_refl b
-    go false f = f tt
+better_r a b = cond_both (no_better a b) b a (λ x. b ≼ x) (λ e. ≼_refl b) (λ e. test_no (rw e tt))
 
 better_lub : {a b c : Key} → a ≼ c → b ≼ c → better a b ≼ c
 better_lub {a} {b} {c} p q = better_ind (λ x. x ≼ c) a b p q

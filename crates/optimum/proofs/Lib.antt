@@ -1,5 +1,4 @@
 pub mod Booleans
-pub mod WholeNumbers
 pub mod Keys
 pub mod StoredKeys
 pub mod Chains

@@ -5,7 +5,8 @@ use mathlib.Core.Logic.{◌⊎◌, inl, inr}
 use Prim.Native.Nat.{ℕ, zero, suc, ◌+◌, ◌*◌, ◌^◌, ◌/◌, ◌%◌, ◌≤◌, ◌<◌}
 use native.Mathlib.Nat.{pow-succ', pow-le-pow_right, div-eq_of_lt, div-div-eq-div-mul}
 use native.Mathlib.Omega.{arith}
-use lib.Dec.{T, not_T, ltb, ltb→lt, nltb→le, eqb}
+use lib.Dec.{T, not_T, eqb}
+use Rattle.std.proofs.lemmas.Bool.{cases_eq, cases_lt}
 use Rattle.optimum.specs.Chain.{Wins}
 use Rattle.optimum.specs.Key.{mask_of, in_mask}
 use Rattle.optimum.proofs.Booleans.{Is, yes, no, is, T-eq, T-neq}
@@ -34,11 +35,7 @@ mask_tie f g zero h m = inl (λ i. h i (omega arith))
 mask_tie f g (suc n) h m = go (is (f n)) (is (g n)) (λ e. mask_tie f g n (from e))
   where
     from : f n ≡ g n → (i : ℕ) → n ≤ i → f i ≡ g i
-    from e i b = at (is (ltb n i))
-      where
-        at : Is (ltb n i) → f i ≡ g i
-        at (yes t) = h i (omega (arith, ltb→lt n i t))
-        at (no t) = let q : n ≡ i = omega (arith, nltb→le n i t) in subst (λ x. f x ≡ g x) q e
+    from e i b = elim (cases_eq n i) [ inl q ↦ subst (λ x. f x ≡ g x) q e | inr ne ↦ h i (omega arith) ]
 
     go : Is (f n) → Is (g n) → (f n ≡ g n → mask_of f n ≤ mask_of g n → ((i : ℕ) → f i ≡ g i) ⊎ Wins f g) → ((i : ℕ) → f i ≡ g i) ⊎ Wins f g
     go (yes t) (yes r) lower = lower (T-eq t ∙ sym (T-eq r)) (omega (arith, mask_in f n t, mask_in g n r))
@@ -89,7 +86,7 @@ mask_digit f (suc n) (suc i) b =
 -- A mask has the numbers of its set, and no other.
 pub mask_bit : (f : ℕ → Bool) (n : ℕ) → ((i : ℕ) → T (f i) → i < n) → (i : ℕ) → in_mask (mask_of f n) i ≡ f i
 unfolding in_mask
-mask_bit f n below i = go (is (ltb i n))
+mask_bit f n below i = elim (cases_lt i n) [ inl l ↦ ap (λ x. eqb x 1) (mask_digit f n i l) ∙ digit_is (f i) | inr h ↦ past h ]
   where
     digit_is : (b : Bool) → eqb (digit b) 1 ≡ b
     digit_is true = refl
@@ -98,9 +95,8 @@ mask_bit f n below i = go (is (ltb i n))
     none : n ≤ i → mask_of f n / 2 ^ i ≡ 0
     none h = div-eq_of_lt (omega (arith, mask_below f n, pow-le-pow_right {n = 2} (omega arith) h))
 
-    go : Is (ltb i n) → eqb (mask_of f n / 2 ^ i % 2) 1 ≡ f i
-    go (yes t) = ap (λ x. eqb x 1) (mask_digit f n i (ltb→lt i n t)) ∙ digit_is (f i)
-    go (no t) = let h = nltb→le i n t in ap (λ x. eqb (x % 2) 1) (none h) ∙ sym (T-neq (not_T (f i) (λ s. omega (arith, below i s))))
+    past : n ≤ i → eqb (mask_of f n / 2 ^ i % 2) 1 ≡ f i
+    past h = ap (λ x. eqb (x % 2) 1) (none h) ∙ sym (T-neq (not_T (f i) (λ s. omega (arith, below i s))))
 
 -- A number is the mask of its bits.
 digit_of : (d : ℕ) → d < 2 → digit (eqb d 1) ≡ d

@@ -1,14 +1,17 @@
 -- A set of positions and the set of their numbers have the same key.
 use mathlib.Core.Path.{◌≡◌, refl, sym, ap, subst, ◌∙◌}
-use mathlib.Core.Bool.{Bool, true, false, not, cond, ◌||◌}
-use Prim.Native.Nat.{ℕ, zero, suc, ◌+◌, ◌^◌, ◌≤◌, ◌<◌}
+use mathlib.Core.Bool.{Bool, false, not, cond, ◌||◌}
+use Prim.Native.Nat.{ℕ, zero, suc, ◌≤◌, ◌<◌}
 use native.Mathlib.Omega.{arith}
-use lib.IntN.{ℤ, ◌+ℤ◌}
+use lib.IntN.{ℤ}
 use lib.Dec.{T, T_not, not_T, eqb, eqb→eq, eqb_refl}
+use mir.Facts.{eqb_no}
+use Rattle.std.proofs.lemmas.Bool.{ne_eqb, cases_Bool}
+use mathlib.Core.Logic.{inl, inr}
 use Rattle.optimum.specs.Chain.{total_of}
 use Rattle.optimum.specs.Key.{Key, empty, ◌⊕◌, mask_of, seed_key}
 use Rattle.optimum.specs.inner.Table.{Numbered}
-use Rattle.optimum.proofs.Booleans.{Is, yes, no, is, T-eq, T-neq, or_l, or_r, or_e, eqb_not, not_eqb}
+use Rattle.optimum.proofs.Booleans.{Is, yes, no, is, T-eq, T-neq, or_l, or_r, or_e}
 use Rattle.optimum.proofs.Keys.{⊕-swap}
 use Rattle.optimum.proofs.Chains.{value, value_in, value_out, value_cong}
 
@@ -16,20 +19,12 @@ use Rattle.optimum.proofs.Chains.{value, value_in, value_out, value_cong}
 pub value_total : (score : ℕ → ℤ) (f : ℕ → Bool) (n : ℕ) → (value (seed_key score) f n).total ≡ total_of score f n
 unfolding value total_of empty ◌⊕◌
 value_total score f zero = refl
-value_total score f (suc n) = go (f n) (value_total score f n)
-  where
-    go : (b : Bool) → (value (seed_key score) f n).total ≡ total_of score f n → (cond b (seed_key score n ⊕ value (seed_key score) f n) (value (seed_key score) f n)).total ≡ cond b (score n +ℤ total_of score f n) (total_of score f n)
-    go true e = ap (λ t. score n +ℤ t) e
-    go false e = e
+value_total score f (suc n) = let e = value_total score f n in elim (cases_Bool (f n)) [ inl y ↦ rw (y, e) | inr z ↦ rw (z, e) ]
 
 pub value_mask : (score : ℕ → ℤ) (f : ℕ → Bool) (n : ℕ) → (value (seed_key score) f n).mask ≡ mask_of f n
 unfolding value mask_of empty ◌⊕◌
 value_mask score f zero = refl
-value_mask score f (suc n) = go (f n) (value_mask score f n)
-  where
-    go : (b : Bool) → (value (seed_key score) f n).mask ≡ mask_of f n → (cond b (seed_key score n ⊕ value (seed_key score) f n) (value (seed_key score) f n)).mask ≡ cond b (2 ^ n + mask_of f n) (mask_of f n)
-    go true e = ap (λ m. 2 ^ n + m) e
-    go false e = e
+value_mask score f (suc n) = let e = value_mask score f n in elim (cases_Bool (f n)) [ inl y ↦ rw (y, e) | inr z ↦ rw (z, e) ]
 
 value_none : (w : ℕ → Key) (n : ℕ) → value w (λ i. false) n ≡ empty
 unfolding value
@@ -45,7 +40,7 @@ module _ (w : ℕ → Key) (f : ℕ → Bool) (k : ℕ) (t : T (not (f k))) wher
   insert_here n q =
       cc (
         value_in w with_k n (or_l (eqb k n) (f n) (subst (λ x. T (eqb k x)) q (eqb_refl k))),
-        value_cong w with_k f n (λ i b. rw (T-neq {b = eqb k i} (eqb_not k i (λ e. omega arith)))),
+        value_cong w with_k f n (λ i b. rw (ne_eqb k i (λ e. omega arith))),
         value_out w f n (subst (λ x. T (not (f x))) q t),
       )
 
@@ -56,12 +51,10 @@ module _ (w : ℕ → Key) (f : ℕ → Bool) (k : ℕ) (t : T (not (f k))) wher
       go : Is (eqb k n) → Is (f n) → (k < n → value w with_k n ≡ w k ⊕ value w f n) → value w with_k (suc n) ≡ w k ⊕ value w f (suc n)
       go (yes e) r lower = insert_here n (eqb→eq k n e)
       go (no e) (yes r) lower =
-          let ne = not_eqb k n e in
-          let l = lower (omega arith) in
+          let l = lower (omega (arith, eqb_no e)) in
           cc (value_in w with_k n (or_r (eqb k n) (f n) r), value_in w f n r, ⊕-swap (w n) (w k) (value w f n))
       go (no e) (no r) lower =
-          let ne = not_eqb k n e in
-          let l = lower (omega arith) in
+          let l = lower (omega (arith, eqb_no e)) in
           cc (value_out w with_k n (not_T (with_k n) (or_e (eqb k n) (f n) (T_not (eqb k n) e) (T_not (f n) r))), value_out w f n r)
 
 -- The numbers of the positions below n in the set f.
@@ -112,7 +105,7 @@ module _ (number : ℕ → ℕ) (f : ℕ → Bool) where
           let q : number n ≡ i = ap number (sym (eqb→eq p.at n e)) ∙ p.numbered in
           subst T (sym (named_yes n s i)) (or_l (eqb (number n) i) (named number f n i) (subst (λ x. T (eqb (number n) x)) q (eqb_refl (number n))))
       go (yes e) (no s) lower = absurd (T_not (f n) s (subst (λ x. T (f x)) (eqb→eq p.at n e) p.inside))
-      go (no e) s lower = let ne = not_eqb p.at n e in shift s (lower (record { at = p.at; below = omega (arith, p.below); inside = p.inside; numbered = p.numbered }))
+      go (no e) s lower = shift s (lower (record { at = p.at; below = omega (arith, p.below, eqb_no e); inside = p.inside; numbered = p.numbered }))
         where
           shift : Is (f n) → T (named number f n i) → T (named number f (suc n) i)
           shift (yes s) r = subst T (sym (named_yes n s i)) (or_r (eqb (number n) i) (named number f n i) r)

@@ -1,15 +1,20 @@
--- How far the total of the best chain can move when one seed gets another score or another presence (document 02, m).
+-- How far the total of the best chain can move when one seed gets another score or another presence.
 use mathlib.Core.Path.{◌≡◌, refl, sym, ap, subst, ◌∙◌}
 use mathlib.Core.Bool.{Bool, true, false, not, cond, ◌&&◌, ◌||◌}
 use Prim.Native.Nat.{ℕ, zero, suc, ◌<◌}
-use lib.IntN.{ℤ, pos, ◌+ℤ◌, ◌-ℤ◌, +ℤ_comm, +ℤ_idr, -ℤ-+ℤ_cancel}
-use lib.Dec.{T, T_not, not_T, eqb, eqb→eq, eqb_refl}
-use lib.Signed.{◌≤ℤ◌, lt_z, lt_z_no, ≤ℤ_refl}
+use lib.IntN.{ℤ, pos, ◌+ℤ◌, ◌-ℤ◌}
+use native.Mathlib.Omega.{arith}
+use lib.Dec.{T, T_not, not_T, eqb, eqb→eq}
+use lib.Signed.{◌≤ℤ◌}
+use Rattle.std.proofs.lemmas.Bool.{cases_Bool, ne_eqb, eq-eqb, cond-true, cond-false}
+use mathlib.Core.Logic.{inl, inr}
+use Rattle.std.proofs.lemmas.Int.{ints, clamps}
+use mir.Facts.{eqb_no}
+use Rattle.std.specs.Int.{int_max}
 use Rattle.optimum.specs.Chain.{Seeds, Chain, total_of, total, IsBest}
 use Rattle.optimum.specs.Key.{Key, ◌⊕◌, seed_key}
-use Rattle.optimum.specs.OneSeed.{seeds_with_score, seeds_with_presence, greater_of}
-use Rattle.optimum.proofs.Booleans.{Is, yes, no, is, T-eq, T-neq, T-ext, and_i, and_l, and_r, or_l, or_r, or_e, eqb_not, not_eqb}
-use Rattle.optimum.proofs.WholeNumbers.{lt_gap, gap_le, le_antisym, le_trans, swap_last, le_plus, le_add, le_minus}
+use Rattle.optimum.specs.OneSeed.{seeds_with_score, seeds_with_presence}
+use Rattle.optimum.proofs.Booleans.{Is, yes, no, is, T-ext, and_i, and_l, and_r, or_l, or_r, or_e}
 use Rattle.optimum.proofs.Chains.{value_cong}
 use Rattle.optimum.proofs.Numbers.{value_total, value_insert}
 
@@ -19,18 +24,14 @@ use Rattle.optimum.proofs.Numbers.{value_total, value_insert}
 total_cong : (a b : ℕ → ℤ) (g : ℕ → Bool) (n : ℕ) → ((i : ℕ) → T (g i) → a i ≡ b i) → total_of a g n ≡ total_of b g n
 unfolding total_of
 total_cong a b g zero h = refl
-total_cong a b g (suc n) h = go (g n) (h n) (total_cong a b g n h)
-  where
-    go : (x : Bool) → (T x → a n ≡ b n) → total_of a g n ≡ total_of b g n → cond x (a n +ℤ total_of a g n) (total_of a g n) ≡ cond x (b n +ℤ total_of b g n) (total_of b g n)
-    go true e lower = rw (e tt, lower)
-    go false e lower = lower
+total_cong a b g (suc n) h = let e = total_cong a b g n h in elim (cases_Bool (g n)) [ inl y ↦ rw (y, h n (rw y tt), e) | inr z ↦ rw (z, e) ]
 
 -- The set without the number k.
 abbrev all_but : (ℕ → Bool) → ℕ → ℕ → Bool
 all_but g k i = not (eqb k i) && g i
 
 all_but_other : (g : ℕ → Bool) (k i : ℕ) → T (all_but g k i) → k ≡ i → ⊥
-all_but_other g k i t = not_eqb k i (and_l (not (eqb k i)) (g i) t)
+all_but_other g k i t = eqb_no (and_l (not (eqb k i)) (g i) t)
 
 -- The score of a number in the set stands apart from the total of the others.
 total_split : (score : ℕ → ℤ) (g : ℕ → Bool) (k n : ℕ) → T (g k) → k < n → total_of score g n ≡ score k +ℤ total_of score (all_but g k) n
@@ -76,55 +77,30 @@ module _ (S : Seeds) (k : ℕ) (score : ℕ → ℤ) (others : (i : ℕ) → (k 
 
     best_same : total scored f' ≡ total S f
     best_same =
-        le_antisym (total scored f') (total S f)
-        (rw (total_same f' (lacks_k (from_scored b.chain))) (a.greatest f' (from_scored b.chain)))
-        (rw (← (total_same f (lacks_k a.chain))) (b.greatest f (to_scored a.chain)))
+        omega (arith, ints, total_same f (lacks_k a.chain), total_same f' (lacks_k (from_scored b.chain)), a.greatest f' (from_scored b.chain), b.greatest f (to_scored a.chain))
 
   module _ (d : ℕ) (here : score k ≡ S.score k +ℤ pos d) where
     -- A set with k has d more.
     total_raised : (g : ℕ → Bool) → T (g k) → k < S.count → total scored g ≡ total S g +ℤ pos d
     total_raised g t b =
-        total_split score g k S.count t b
-        ∙ ap (λ (x : ℤ). score k +ℤ x) (total_cong score S.score (all_but g k) S.count (λ i s. others i (all_but_other g k i s)))
-        ∙ ap (λ (x : ℤ). x +ℤ total_of S.score (all_but g k) S.count) here
-        ∙ swap_last (S.score k) (pos d) (total_of S.score (all_but g k) S.count)
-        ∙ ap (λ (x : ℤ). x +ℤ pos d) (sym (total_split S.score g k S.count t b))
+        omega (arith, ints, total_split score g k S.count t b, total_split S.score g k S.count t b, total_cong score S.score (all_but g k) S.count (λ i s. others i (all_but_other g k i s)))
 
     total_between : (g : ℕ → Bool) → Chain S g → (total S g ≤ℤ total scored g) × (total scored g ≤ℤ (total S g +ℤ pos d))
     total_between g c = go (is (g k))
       where
-        more : total S g ≤ℤ (total S g +ℤ pos d)
-        more = gap_le (total S g) (total S g +ℤ pos d) d refl
-
         go : Is (g k) → (total S g ≤ℤ total scored g) × (total scored g ≤ℤ (total S g +ℤ pos d))
-        go (yes t) = let e = total_raised g t (c.given k t) in (rw e more, rw e (≤ℤ_refl (total S g +ℤ pos d)))
-        go (no t) = let e = total_same g t in (rw e (≤ℤ_refl (total S g)), rw e more)
+        go (yes t) = let e = total_raised g t (c.given k t) in (omega (arith, ints), omega (arith, ints))
+        go (no t) = let e = total_same g t in (omega (arith, ints), omega (arith, ints))
 
     -- So it is with the best chains.
     best_between : {f f' : ℕ → Bool} → IsBest S f → IsBest scored f' → (total S f ≤ℤ total scored f') × (total scored f' ≤ℤ (total S f +ℤ pos d))
     best_between {f} {f'} a b =
         let c = from_scored b.chain in (
-          le_trans (total S f) (total scored f) (total scored f') (total_between f a.chain).0 (b.greatest f (to_scored a.chain)),
-          le_trans (total scored f') (total S f' +ℤ pos d) (total S f +ℤ pos d) (total_between f' c).1 (le_plus (total S f') (total S f) (pos d) (a.greatest f' c)),
+          omega (arith, ints, (total_between f a.chain).0, b.greatest f (to_scored a.chain)),
+          omega (arith, ints, (total_between f' c).1, a.greatest f' c),
         )
 
 -- ---- another presence
-
-greater_l : (a b : ℤ) → a ≤ℤ greater_of a b
-unfolding greater_of
-greater_l a b = go (lt_z a b) (λ t. let g = lt_gap a b t in gap_le a b (suc g.0) g.1)
-  where
-    go : (x : Bool) → (T x → a ≤ℤ b) → a ≤ℤ cond x b a
-    go true h = h tt
-    go false h = ≤ℤ_refl a
-
-greater_r : (a b : ℤ) → b ≤ℤ greater_of a b
-unfolding greater_of
-greater_r a b = go (lt_z a b) lt_z_no
-  where
-    go : (x : Bool) → (T (not x) → b ≤ℤ a) → b ≤ℤ cond x b a
-    go true h = ≤ℤ_refl b
-    go false h = h tt
 
 -- The best chain of the seeds of which k is withdrawn.
 module _ (S : Seeds) (k : ℕ) (present : ℕ → Bool) (others : (i : ℕ) → (k ≡ i → ⊥) → present i ≡ S.present i) (gone : present k ≡ false) where
@@ -148,24 +124,20 @@ module _ (S : Seeds) (k : ℕ) (present : ℕ → Bool) (others : (i : ℕ) → 
       (record { given = λ i t. c.given i (in_g i t); present = λ i t. c.present i (in_g i t); chainable = λ i j s t. c.chainable i j (in_g i s) (in_g j t) })
       (all_but_other g k)
 
-  best_without : {f f' : ℕ → Bool} → IsBest S f → IsBest lacking f' → (total lacking f' ≤ℤ total S f) × (total S f ≤ℤ (total lacking f' +ℤ greater_of (S.score k) (pos 0)))
+  best_without : {f f' : ℕ → Bool} → IsBest S f → IsBest lacking f' → (total lacking f' ≤ℤ total S f) × (total S f ≤ℤ (total lacking f' +ℤ int_max (S.score k) (pos 0)))
   best_without {f} {f'} a b = (a.greatest f' (from_lacking b.chain), go (is (f k)))
     where
-      go : Is (f k) → total S f ≤ℤ (total lacking f' +ℤ greater_of (S.score k) (pos 0))
-      go (yes t) =
-          rw (total_split S.score f k S.count t (a.chain.given k t) ∙ +ℤ_comm (S.score k) (total S (all_but f k)))
-          (le_add (total S (all_but f k)) (total lacking f') (S.score k) (greater_of (S.score k) (pos 0)) (b.greatest (all_but f k) (shortened a.chain)) (greater_l (S.score k) (pos 0)))
-      go (no t) =
-          rw (← (+ℤ_idr (total S f)))
-          (le_add (total S f) (total lacking f') (pos 0) (greater_of (S.score k) (pos 0)) (b.greatest f (to_lacking a.chain (λ i s e. T_not (f k) t (subst (λ x. T (f x)) (sym e) s)))) (greater_r (S.score k) (pos 0)))
+      go : Is (f k) → total S f ≤ℤ (total lacking f' +ℤ int_max (S.score k) (pos 0))
+      go (yes t) = omega (arith, ints, clamps, total_split S.score f k S.count t (a.chain.given k t), b.greatest (all_but f k) (shortened a.chain))
+      go (no t) = omega (arith, ints, clamps, b.greatest f (to_lacking a.chain (λ i s e. T_not (f k) t (subst (λ x. T (f x)) (sym e) s))))
 
 -- ---- how far the best total moves
 
 at_k : {A : Type 0} (k : ℕ) (x y : A) → cond (eqb k k) x y ≡ x
-at_k k x y = rw (T-eq {b = eqb k k} (eqb_refl k))
+at_k k x y = cond-true (eqb k k) x y (eq-eqb k k refl)
 
 off_k : {A : Type 0} (k i : ℕ) (x y : A) → (k ≡ i → ⊥) → cond (eqb k i) x y ≡ y
-off_k k i x y ne = rw (T-neq {b = eqb k i} (eqb_not k i ne))
+off_k k i x y ne = cond-false (eqb k i) x y (ne_eqb k i ne)
 
 -- The best chains f of the seeds S, and f' of the seeds S', which are S with another score or another presence for number k.
 module _ {S S' : Seeds} {f f' : ℕ → Bool} (a : IsBest S f) (b : IsBest S' f') (k : ℕ) where
@@ -177,12 +149,12 @@ module _ {S S' : Seeds} {f f' : ℕ → Bool} (a : IsBest S f) (b : IsBest S' f'
 
   -- Lowering it by d lowers the total by no more than d and never raises it.
   pub lowered : (d : ℕ) → S' ≡ seeds_with_score S k (S.score k -ℤ pos d) → ((total S f -ℤ pos d) ≤ℤ total S' f') × (total S' f' ≤ℤ total S f)
-  lowered d e = (le_minus (total S f) (total S' f') (pos d) between.1, between.0)
+  lowered d e = (omega (arith, ints, between.1), between.0)
     where
       between : (total S' f' ≤ℤ total S f) × (total S f ≤ℤ (total S' f' +ℤ pos d))
       between =
           subst (λ (X : Seeds). IsBest X f' → (total X f' ≤ℤ total S f) × (total S f ≤ℤ (total X f' +ℤ pos d))) (sym e)
-          (λ c. best_between (seeds_with_score S k (S.score k -ℤ pos d)) k S.score (λ i ne. sym (off_k k i _ _ ne)) d (sym (ap (λ (x : ℤ). x +ℤ pos d) (at_k k _ _) ∙ -ℤ-+ℤ_cancel (S.score k) (pos d))) c a) b
+          (λ c. best_between (seeds_with_score S k (S.score k -ℤ pos d)) k S.score (λ i ne. sym (off_k k i _ _ ne)) d (omega (arith, ints, at_k k (S.score k -ℤ pos d) (S.score k))) c a) b
 
   -- Any score of a withdrawn seed leaves it.
   pub absent_scored : (z : ℤ) → S' ≡ seeds_with_score S k z → S.present k ≡ false → total S' f' ≡ total S f
@@ -191,16 +163,16 @@ module _ {S S' : Seeds} {f f' : ℕ → Bool} (a : IsBest S f) (b : IsBest S' f'
       (λ c. best_same S k _ (λ i. off_k k i _ _) a c gone) b
 
   -- Withdrawing a seed of score s lowers the total by no more than the greater of s and 0, and never raises it.
-  pub withdrawn : S' ≡ seeds_with_presence S k false → ((total S f -ℤ greater_of (S.score k) (pos 0)) ≤ℤ total S' f') × (total S' f' ≤ℤ total S f)
-  withdrawn e = (le_minus (total S f) (total S' f') (greater_of (S.score k) (pos 0)) between.1, between.0)
+  pub withdrawn : S' ≡ seeds_with_presence S k false → ((total S f -ℤ int_max (S.score k) (pos 0)) ≤ℤ total S' f') × (total S' f' ≤ℤ total S f)
+  withdrawn e = (omega (arith, ints, between.1), between.0)
     where
-      between : (total S' f' ≤ℤ total S f) × (total S f ≤ℤ (total S' f' +ℤ greater_of (S.score k) (pos 0)))
+      between : (total S' f' ≤ℤ total S f) × (total S f ≤ℤ (total S' f' +ℤ int_max (S.score k) (pos 0)))
       between =
-          subst (λ (X : Seeds). IsBest X f' → (total X f' ≤ℤ total S f) × (total S f ≤ℤ (total X f' +ℤ greater_of (S.score k) (pos 0)))) (sym e)
+          subst (λ (X : Seeds). IsBest X f' → (total X f' ≤ℤ total S f) × (total S f ≤ℤ (total X f' +ℤ int_max (S.score k) (pos 0)))) (sym e)
           (λ c. best_without S k _ (λ i. off_k k i _ _) (at_k k _ _) a c) b
 
   -- Bringing it back raises the total by no less than 0 and no more than that.
-  pub brought_back : S' ≡ seeds_with_presence S k true → S.present k ≡ false → (total S f ≤ℤ total S' f') × (total S' f' ≤ℤ (total S f +ℤ greater_of (S.score k) (pos 0)))
+  pub brought_back : S' ≡ seeds_with_presence S k true → S.present k ≡ false → (total S f ≤ℤ total S' f') × (total S' f' ≤ℤ (total S f +ℤ int_max (S.score k) (pos 0)))
   brought_back e gone =
-      subst (λ (X : Seeds). IsBest X f' → (total S f ≤ℤ total X f') × (total X f' ≤ℤ (total S f +ℤ greater_of (S.score k) (pos 0)))) (sym e)
+      subst (λ (X : Seeds). IsBest X f' → (total S f ≤ℤ total X f') × (total X f' ≤ℤ (total S f +ℤ int_max (S.score k) (pos 0)))) (sym e)
       (λ c. best_without (seeds_with_presence S k true) k S.present (λ i ne. sym (off_k k i _ _ ne)) gone c a) b

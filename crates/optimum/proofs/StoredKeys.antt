@@ -1,11 +1,11 @@
 -- What comparing and clipping stored keys gives, by the tests that a program makes.
-use mathlib.Core.Path.{◌≡◌, refl, sym, ap, ◌∙◌}
-use Prim.Native.Nat.{ℕ, suc, ◌+◌, ◌-◌, ◌≤◌, ◌<◌}
+use mathlib.Core.Path.{◌≡◌, refl, sym, ap}
+use Prim.Native.Nat.{ℕ, suc, ◌+◌, ◌≤◌, ◌<◌}
 use native.Mathlib.Omega.{arith}
 use lib.IntN.{ℤ, pos, negsuc, ◌+ℤ◌}
+use Rattle.std.proofs.lemmas.Int.{ints}
 use Rattle.optimum.specs.Key.{Key, empty, ◌⊕◌, better}
 use Rattle.optimum.specs.inner.Table.{stored}
-use Rattle.optimum.proofs.WholeNumbers.{sub_ge}
 use Rattle.optimum.proofs.Keys.{key_eq, ◌≼◌, more, same, better_left, better_right}
 
 -- Stored keys are added number by number.
@@ -14,7 +14,7 @@ unfolding ◌⊕◌
 stored_add t m t' m' = refl
 
 greater_total : (t m t' m' : ℕ) → t < t' → stored t m ≼ stored t' m'
-greater_total t m t' m' h = more (t' - suc t) (ap pos (omega arith))
+greater_total t m t' m' h = more (omega (arith, ints))
 
 equal_total : (t m t' m' : ℕ) → t ≡ t' → m' ≤ m → stored t m ≼ stored t' m'
 equal_total t m t' m' e h = same (ap pos (sym e)) h
@@ -55,4 +55,4 @@ module _ (s : ℤ) (b t m : ℕ) where
   unfolding empty ◌⊕◌
   clip_less n e =
       let q : sum ≡ record { total = negsuc n; mask = b + m } = key_eq e refl in
-      rw q (better_left (more n (sym (sub_ge (suc n) (suc n) (omega arith) ∙ ap pos (omega arith)))))
+      rw q (better_left (more (omega (arith, ints))))

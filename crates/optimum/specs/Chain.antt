@@ -1,5 +1,4 @@
--- Chains, totals, the tie rule and the best chain (document 01, "Pairs, seeds, chains"). A set of seed numbers is a test of numbers; numbers
--- count from 0 here.
+-- Chains, totals, the tie rule and the best chain. A set of seed numbers is a test of numbers; numbers count from 0 here.
 use Rattle.std.specs.Prelude.{◌≡◌, Bool, not, cond, ◌⊎◌, ℕ, zero, suc, ◌<◌, ℤ, pos, ◌+ℤ◌, T, ◌≤ℤ◌}
 
 -- The seeds to choose from: how many numbers were given out, which of them are present, their scores, and which two are chainable.

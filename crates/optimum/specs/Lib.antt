@@ -1,4 +1,4 @@
--- What a reader believes, in the documents' order.
+-- What a reader believes.
 pub mod Chain
 pub mod OneSeed
 -- The same computed.

@@ -1,6 +1,5 @@
--- Seeds that differ in one score or in one presence, for how far a rescoring can move the total (document 02, m). Numbers count from 0 here.
+-- Seeds that differ in one score or in one presence, for how far one call can move the total. Numbers count from 0 here.
 use Rattle.std.specs.Prelude.{Bool, cond, ℕ, ℤ, eqb}
-use Rattle.std.specs.Int.Signed.{lt_z}
 use Rattle.optimum.specs.Chain.{Seeds}
 
 -- The same seeds with another score for number k.
@@ -10,7 +9,3 @@ seeds_with_score S k z = record { count = S.count; present = S.present; score = 
 -- The same seeds with another presence for number k.
 abbrev pub seeds_with_presence : Seeds → ℕ → Bool → Seeds
 seeds_with_presence S k b = record { count = S.count; present = λ i. cond (eqb k i) b (S.present i); score = S.score; Chainable = S.Chainable }
-
--- The greater of two whole numbers.
-unfoldable pub greater_of : ℤ → ℤ → ℤ
-greater_of a b = cond (lt_z a b) b a

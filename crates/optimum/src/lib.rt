@@ -1,2 +1,2 @@
-// The theory of the best chain: definitions in specs, laws in proofs, and no function.
+//! The theory of the best chain: definitions in specs, laws in proofs, and no function.
 #![tactic(auto)]
