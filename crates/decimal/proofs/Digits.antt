@@ -3,7 +3,7 @@ use mathlib.Core.Path.{◌≡◌}
 use mathlib.Core.Bool.{true, ◌&&◌}
 use mathlib.Core.List.{List}
 use Prim.Native.Nat.{ℕ, suc, ◌+◌, ◌-◌, ◌*◌, ◌^◌, ◌≤◌, ◌<◌}
-use native.Mathlib.Nat.{pow-suc, pow-le-pow_right}
+use native.Mathlib.Nat.{pow-suc}
 use native.Mathlib.Omega.{arith}
 use lib.ListN.{length, drop, get_or}
 use lib.Seq.{drop-cons, drop-length}
@@ -23,10 +23,6 @@ module _ (s : List ℕ) (i : ℕ) where
   unfolding all_digits
   all_more some = rw (drop-cons s i 0 some)
 
-  pub all_none : i ≡ length s → all_digits (drop i s) ≡ true
-  unfolding all_digits
-  all_none all = rw (all, drop-length)
-
   pub number_more : (n : ℕ) → i < length s → digits_number n (drop i s) ≡ digits_number (10 * n + (get_or s i 0 - 48)) (drop (suc i) s)
   unfolding digits_number
   number_more n some = rw (drop-cons s i 0 some)
@@ -44,9 +40,6 @@ pub record Passed (s : List ℕ) (n i : ℕ) : Type 0 where
 
 module _ (s : List ℕ) (few : length s ≤ 5) where
   module _ {n i : ℕ} (p : Passed s n i) where
-    pub passed_few : n < 100000
-    passed_few = omega (arith, p.small, p.within, pow-le-pow_right {n = 10} (omega arith) {i = i} {j = 5} (omega (arith, p.within)))
-
     module _ (some : i < length s) where
       pub passed_digit : (48 ≤ get_or s i 0) × (get_or s i 0 ≤ 57)
       passed_digit = digit_range (get_or s i 0) (both_true (is_digit (get_or s i 0)) (all_digits (drop (suc i) s)) (rw (all_more s i some) at p.digits)).0

@@ -4,14 +4,17 @@ use mathlib.Core.Bool.{true, false}
 use mathlib.Core.List.{[], ◌∷◌, ◌++◌, map}
 use lib.IntN.{ℤ, pos, negsuc}
 use lib.ListN.{replicate}
-use Rattle.answer.specs.declared.Answer.TheVariants.{Accepted}
+use Rattle.std.specs.Prelude.{Result, Ok, Err}
+use Rattle.answer.specs.Refusal.{refusal_at}
+use Rattle.answer.specs.declared.Refusal.{Refusal}
+use Rattle.answer.specs.declared.Ground.TheVariants.{ScoreText}
+use Rattle.answer.specs.declared.Place.TheVariants.{Nothing}
 use Rattle.write.specs.Decimal.{bytes, digits}
 use Rattle.table.specs.Rows.{in_range}
-use Rattle.decimal.specs.Score.{minus_first, behind_minus, whole_in, point_in, hundredths_in, is_digit, all_digits, idle_zero, unsigned_form, digits_number, unsigned_number, score_form, number_in, is_score, no_score, score_read, two_digits, unsigned_text, number_text, beyond}
-use Rattle.decimal.specs.declared.ScoreRead.{ScoreRead}
+use Rattle.decimal.specs.Score.{minus_first, behind_minus, whole_in, point_in, hundredths_in, is_digit, all_digits, idle_zero, unsigned_form, digits_number, unsigned_number, score_form, number_in, is_score, score_read, two_digits, unsigned_text, number_text, beyond}
 
-abbrev read_as : ℤ → ScoreRead
-read_as z = record { answer = Accepted; score = z }
+abbrev read_as : ℤ → Result ℤ Refusal
+read_as z = Ok z
 
 pub texts_read :
     map score_read (bytes "0.00" ∷ bytes "-0.50" ∷ bytes "0.01" ∷ bytes "10000.00" ∷ bytes "-10000.00" ∷ [])
@@ -39,7 +42,7 @@ pub texts_refused :
     ∷ replicate 300 49
     ∷ (replicate 300 49 ++ bytes ".00")
     ∷ [])
-    ≡ replicate 16 no_score
+    ≡ replicate 16 (Err (refusal_at ScoreText Nothing))
 unfolding score_read is_score score_form unsigned_form number_in unsigned_number digits_number idle_zero all_digits is_digit whole_in point_in hundredths_in minus_first behind_minus in_range
 texts_refused = refl
 

@@ -8,17 +8,18 @@ use native.Mathlib.Omega.{arith}
 use lib.ListN.{length}
 use lib.IntN.{ℤ, pos, negsuc, nat_abs}
 use borrow.Author.Tests.{le-leb, le-ltb}
-use Rattle.answer.specs.declared.Answer.TheVariants.{Accepted, Refused}
+use Rattle.std.specs.Prelude.{Result, Ok, Err}
+use Rattle.std.specs.Result.{is_ok}
+use Rattle.answer.specs.Refusal.{refusal_at}
+use Rattle.answer.specs.declared.Refusal.{Refusal}
 use Rattle.answer.specs.declared.Ground.TheVariants.{ScoreText}
 use Rattle.answer.specs.declared.Place.TheVariants.{Nothing}
-use Rattle.answer.proofs.Denied.{denies}
 use Rattle.answer.proofs.Tells.{both_true}
 use Rattle.write.specs.Decimal.{bytes, decimal}
 use Rattle.table.specs.Rows.{in_range}
 use Rattle.table.proofs.Ranges.{range_size}
-use Rattle.decimal.specs.Score.{is_digit, all_digits, digits_number, unsigned_number, score_form, signed_number, number_in, is_score, no_score, score_read, two_digits, unsigned_text, number_text, beyond}
+use Rattle.decimal.specs.Score.{is_digit, all_digits, digits_number, unsigned_number, score_form, signed_number, number_in, is_score, score_read, two_digits, unsigned_text, number_text, beyond}
 use Rattle.decimal.specs.Parts.{MadeOf}
-use Rattle.decimal.specs.declared.ScoreRead.{ScoreRead}
 use Rattle.decimal.proofs.Digits.{digit_range}
 use Rattle.decimal.proofs.Decimals.{digits_all, digits_number_lem, digits_some, digits_few, digits_not_idle, digits_of_number}
 use Rattle.decimal.proofs.Parts.{number_is, first_is, behind_is, sign_front, made_form, form_made}
@@ -99,7 +100,7 @@ written_form (pos n) e = made_form (score_made n false (range_size (pos n) e) (�
 written_form (negsuc n) e = made_form (score_made (suc n) true (range_size (negsuc n) e) (λ m z. omega arith))
 
 -- A written score reads back as itself.
-pub written_read_back : (z : ℤ) → in_range z ≡ true → score_read (number_text z) ≡ record { answer = Accepted; score = z }
+pub written_read_back : (z : ℤ) → in_range z ≡ true → score_read (number_text z) ≡ Ok z
 unfolding score_read is_score
 written_read_back z e = rw (written_form z e, number_back z (range_within z e), e)
 
@@ -148,16 +149,20 @@ made_text {minus} {whole} {hundredths} made =
     ∙ sym made.spelled
 
 -- Exactly the texts of the form within the bounds are accepted, with the number that they stand for.
-pub read_exactly : (s : List ℕ) (z : ℤ) → (score_read s ≡ record { answer = Accepted; score = z }) ↔ ((score_form s ≡ true) × (number_in s ≡ z) × (in_range z ≡ true))
+pub read_exactly : (s : List ℕ) (z : ℤ) → (score_read s ≡ Ok z) ↔ ((score_form s ≡ true) × (number_in s ≡ z) × (in_range z ≡ true))
 unfolding score_read is_score
 read_exactly s z = (λ e. go (score_form s) refl (in_range (number_in s)) refl e, λ h. rw (h.0, h.1, h.2))
   where
-    go : (a : Bool) → score_form s ≡ a → (b : Bool) → in_range (number_in s) ≡ b → cond (a && b) (record { answer = Accepted; score = number_in s }) no_score ≡ record { answer = Accepted; score = z } → (score_form s ≡ true) × (number_in s ≡ z) × (in_range z ≡ true)
-    go true f true r e = let n : number_in s ≡ z = ap (λ (x : ScoreRead). x.score) e in (f, n, ap in_range (sym n) ∙ r)
-    go true f false r e = absurd (denies {x = Refused ScoreText Nothing} refl (ap (λ (x : ScoreRead). x.answer) e))
-    go false f b r e = absurd (denies {x = Refused ScoreText Nothing} refl (ap (λ (x : ScoreRead). x.answer) e))
+    score_in : Result ℤ Refusal → ℤ
+    score_in (Ok y) = y
+    score_in (Err refusal) = pos 0
 
-pub accepted_written : (s : List ℕ) (z : ℤ) → score_read s ≡ record { answer = Accepted; score = z } → s ≡ number_text z
+    go : (a : Bool) → score_form s ≡ a → (b : Bool) → in_range (number_in s) ≡ b → cond (a && b) (Ok (number_in s)) (Err (refusal_at ScoreText Nothing)) ≡ Ok z → (score_form s ≡ true) × (number_in s ≡ z) × (in_range z ≡ true)
+    go true f true r e = let n : number_in s ≡ z = ap score_in e in (f, n, ap in_range (sym n) ∙ r)
+    go true f false r e = absurd (false≢true (ap is_ok e))
+    go false f b r e = absurd (false≢true (ap is_ok e))
+
+pub accepted_written : (s : List ℕ) (z : ℤ) → score_read s ≡ Ok z → s ≡ number_text z
 accepted_written s z e =
     let h = (read_exactly s z).0 e in
     sym (made_text (form_made s h.0)) ∙ ap number_text h.1

@@ -1,16 +1,14 @@
--- Scores with two decimals (document 02, a), as lists of bytes: "an optional minus (a hyphen), one to five digits, a point, two digits, with no
+-- Scores with two decimals, as lists of bytes: "an optional minus (a hyphen), one to five digits, a point, two digits, with no
 -- idle leading zero and no minus before 0.00". A number counts hundredths.
-use Rattle.std.specs.Prelude.{◌≡◌, Bool, true, false, cond, not, ◌&&◌, ◌||◌, List, [], ◌∷◌, ◌++◌, ℕ, suc, ◌+◌, ◌-◌, ◌*◌, ◌/◌, ◌%◌, length, take, drop, get_or, eqb, leb, ℤ, pos, negsuc, neg_ℤ}
+use Rattle.std.specs.Prelude.{◌≡◌, Bool, true, false, cond, not, ◌&&◌, ◌||◌, List, [], ◌∷◌, ◌++◌, ℕ, suc, ◌+◌, ◌-◌, ◌*◌, ◌/◌, ◌%◌, length, take, drop, get_or, eqb, leb, ℤ, pos, negsuc, neg_ℤ, Result, Ok, Err}
 use Rattle.std.specs.Int.Signed.{lt_z}
-use Rattle.answer.specs.declared.Answer.TheVariants.{Accepted, Refused}
-use Rattle.answer.specs.declared.Ground.{Ground}
+use Rattle.answer.specs.Refusal.{refusal_at}
+use Rattle.answer.specs.declared.Refusal.{Refusal}
 use Rattle.answer.specs.declared.Ground.TheVariants.{ScoreRange, ScoreText}
 use Rattle.answer.specs.declared.Place.TheVariants.{Nothing}
 use Rattle.write.specs.Decimal.{bytes, decimal}
 use Rattle.write.specs.Wrote.{written_of, output_of}
-use Rattle.write.specs.declared.Written.{Written}
 use Rattle.table.specs.Rows.{in_range}
-use Rattle.decimal.specs.declared.ScoreRead.{ScoreRead}
 
 -- "An optional minus (a hyphen)": whether it stands first, and the text behind it.
 unfoldable pub minus_first : List ℕ → Bool
@@ -78,12 +76,9 @@ number_in s = signed_number (minus_first s) (unsigned_number (behind_minus s))
 unfoldable pub is_score : List ℕ → Bool
 is_score s = score_form s && in_range (number_in s)
 
--- Ground 23 has no place, and beside it stands the score 0.
-abbrev pub no_score : ScoreRead
-no_score = record { answer = Refused ScoreText Nothing; score = pos 0 }
-
-unfoldable pub score_read : List ℕ → ScoreRead
-score_read s = cond (is_score s) (record { answer = Accepted; score = number_in s }) no_score
+-- What reading a score text answers: its score, or ground 23, which has no place.
+unfoldable pub score_read : List ℕ → Result ℤ Refusal
+score_read s = cond (is_score s) (Ok (number_in s)) (Err (refusal_at ScoreText Nothing))
 
 -- A number below 100 in two digits.
 unfoldable pub two_digits : ℕ → List ℕ
@@ -101,11 +96,7 @@ number_text (negsuc n) = bytes "-" ++ unsigned_text (suc n)
 unfoldable pub beyond : ℤ → Bool
 beyond z = lt_z z (negsuc 63999999) || lt_z (pos 64000000) z
 
--- Both grounds have no place, and beside them stands the length 0.
-abbrev pub not_written : Ground → Written
-not_written reason = record { answer = Refused reason Nothing; length = 0 }
-
--- What writing a number promises, of its answer and of the output before and after: 11, then 22 or the text's length; nothing is touched beside a refusal, and no byte beyond the text.
-pub record WritesNumber (z : ℤ) (before after : List ℕ) (r : Written) : Type 0 where
-  pub answers : r ≡ cond (beyond z) (not_written ScoreRange) (written_of (number_text z) (length before))
+-- What writing a number promises, of its result and of the output before and after: 11, then 22, both without a place, or the text's length; nothing is touched beside a refusal, and no byte beyond the text.
+pub record WritesNumber (z : ℤ) (before after : List ℕ) (r : Result ℕ Refusal) : Type 0 where
+  pub answers : r ≡ cond (beyond z) (Err (refusal_at ScoreRange Nothing)) (written_of (number_text z) (length before))
   pub leaves : after ≡ cond (beyond z) before (output_of (number_text z) before)

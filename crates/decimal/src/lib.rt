@@ -1,139 +1,82 @@
-// Scores and totals as texts with two decimals: read, and written.
+//! Scores and totals as texts with two decimals: read, and written.
 #![tactic(auto)]
 
 mod form;
 mod text;
 
-ghost use Rattle.std.specs.Prelude.{◌≡◌, ◌&&◌, ◌≤◌, ◌<◌, eqb, pos, nat_abs};
+ghost use Rattle.std.specs.Prelude.{◌≡◌, ◌&&◌, ◌<◌, eqb, pos};
 ghost use Rattle.write.specs.Puts.{Puts};
-ghost use Rattle.decimal.specs.Score.{signed_number, no_score, score_read, number_text, beyond, not_written, WritesNumber};
+ghost use Rattle.decimal.specs.Score.{signed_number, score_read, number_text, beyond, WritesNumber};
 
-use answer::{Answer, Ground, Place, refused};
+use answer::{Ground, Place, Refusal};
 use form::{behind_minus, minus_first, unsigned_form, unsigned_number};
 use table::in_range;
 use text::text_of;
-use write::{Written, put_word};
+use write::put_word;
 
-// What reading a score text answers, and its score in hundredths: 0 beside a refusal.
-#[derive(Clone, Copy)]
-pub struct ScoreRead {
-    pub answer: Answer,
-    pub score: i32,
-}
-
-// What is answered on ground 23.
-fn no_score() -> ScoreRead
-    ensures { result ≡ no_score }
-{
-    ScoreRead {
-        answer: refused(Ground::ScoreText, Place::Nothing),
-        score: 0,
-    }
-}
-
-// A minus before 0.00.
+/// A minus before 0.00.
 fn minus_before_zero(minus: bool, hundredths: u64) -> bool
     ensures { result ≡ minus && eqb hundredths 0 }
 {
-    if minus {
-        return hundredths == 0;
-    }
-    false
+    minus && hundredths == 0
 }
 
-// A number of hundredths with its sign.
+/// A number of hundredths with its sign.
 fn signed(minus: bool, hundredths: u64) -> i32
     requires { hundredths < 20000000 }
     ensures { result ≡ signed_number minus hundredths }
 {
     let positive = hundredths as i32;
-    if minus {
-        return 0 - positive;
-    }
-    positive
+    if minus { -positive } else { positive }
 }
 
-// Reads a score text.
-pub fn read(text: &[u8]) -> ScoreRead
+/// The score that a text stands for, in hundredths.
+pub fn read(text: &[u8]) -> Result<i32, Refusal>
     ensures { result ≡ score_read text.now }
 {
     let minus = minus_first(text);
     let unsigned = behind_minus(text);
     if !unsigned_form(unsigned) {
-        return no_score();
+        return Err(Ground::ScoreText.at(Place::Nothing));
     }
     let hundredths = unsigned_number(unsigned);
     if minus_before_zero(minus, hundredths) {
-        return no_score();
+        return Err(Ground::ScoreText.at(Place::Nothing));
     }
     let score = signed(minus, hundredths);
     if !in_range(score) {
-        return no_score();
+        return Err(Ground::ScoreText.at(Place::Nothing));
     }
-    ScoreRead {
-        answer: Answer::Accepted,
-        score,
-    }
+    Ok(score)
 }
 
-// Whether a number of hundredths is beyond every total, on either side of zero.
+/// Whether a number of hundredths is beyond every total, on either side of zero.
 #[tactic(auto, unfolding(crate::specs::Score::beyond))]
 fn is_beyond(number: i64) -> bool
     ensures { result ≡ beyond number }
 {
-    if number < -64000000 {
-        return true;
-    }
-    64000000 < number
+    !(-64000000..=64000000).contains(&number)
 }
 
-// A number without its sign.
-fn magnitude(number: i64) -> u64
-    requires { nat_abs number ≤ 64000000 }
-    ensures { result ≡ nat_abs number }
-{
-    if number < 0 {
-        return (0 - number) as u64;
-    }
-    number as u64
-}
-
-// What writing answers on a ground.
-fn not_written(reason: Ground) -> Written
-    ensures { result ≡ not_written reason }
-{
-    Written {
-        answer: refused(reason, Place::Nothing),
-        length: 0,
-    }
-}
-
-// Writes a score or a total, in hundredths, as a text, and answers how many bytes that is.
-pub fn write(number: i64, out: &mut [u8]) -> Written
+/// Writes a score or a total, in hundredths, as a text, and answers how many bytes that is.
+pub fn write(number: i64, out: &mut [u8]) -> Result<usize, Refusal>
     ensures { WritesNumber number out.old out.new result }
 {
     if is_beyond(number) {
-        return not_written(Ground::ScoreRange);
+        return Err(Ground::ScoreRange.at(Place::Nothing));
     }
-    let text = text_of(number < 0, magnitude(number));
-    let bytes = text.bytes;
-    let length = text.length;
-    if out.len() < length {
-        return not_written(Ground::OutputShort);
+    let text = text_of(number < 0, number.unsigned_abs());
+    if out.len() < text.length {
+        return Err(Ground::OutputShort.at(Place::Nothing));
     }
-    put_word(out, 0, &bytes[..length]);
-    Written {
-        answer: Answer::Accepted,
-        length,
-    }
+    put_word(out, 0, &text.bytes[..text.length]);
+    Ok(text.length)
 }
 
-// Puts a total, in hundredths, as a text from a place on, and answers the place behind it.
+/// Puts a total, in hundredths, as a text from a place on, and answers the place behind it.
 pub fn put_total(out: &mut [u8], at: usize, total: u64) -> usize
     ensures { Puts (number_text (pos total)) at out.old out.new result }
 {
     let text = text_of(false, total);
-    let bytes = text.bytes;
-    let length = text.length;
-    put_word(out, at, &bytes[..length])
+    put_word(out, at, &text.bytes[..text.length])
 }

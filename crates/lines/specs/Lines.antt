@@ -30,16 +30,16 @@ unfoldable pub result_lines : ℕ → List Bool → List ℕ
 result_lines total chain = score_line total ++ chain_line chain
 
 -- "Q" or "T" or "seed" with the place, if any, one space between.
-unfoldable pub placed : Place → List ℕ
-placed (ByteInQ at) = bytes " Q " ++ decimal at
-placed (ByteInT at) = bytes " T " ++ decimal at
-placed (Seed number) = bytes " seed " ++ decimal number
-placed Nothing = []
+unfoldable pub place_words : Place → List ℕ
+place_words (ByteInQ at) = bytes " Q " ++ decimal at
+place_words (ByteInT at) = bytes " T " ++ decimal at
+place_words (Seed number) = bytes " seed " ++ decimal number
+place_words Nothing = []
 
 -- The one line of a refusal; what is accepted has none.
 unfoldable pub refusal_line : Said → List ℕ
 refusal_line accepted = []
-refusal_line (refused number place) = bytes "refused " ++ decimal number ++ placed place ++ bytes "\n"
+refusal_line (refused number place) = bytes "refused " ++ decimal number ++ place_words place ++ bytes "\n"
 
 -- How many bytes hold every report.
 abbrev pub lines_room : ℕ

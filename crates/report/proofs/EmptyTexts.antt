@@ -23,7 +23,7 @@ use Rattle.dealing.specs.Texts.{both_read}
 use Rattle.dealing.specs.Seeds.{seeds_answer}
 use Rattle.dealing.specs.Deal.{deck_answer, deal_answer, deal_of}
 use Rattle.chain.specs.Opening.{deck_opening}
-use Rattle.lines.specs.Lines.{score_line, member, members, chain_line, result_lines, placed, refusal_line}
+use Rattle.lines.specs.Lines.{score_line, member, members, chain_line, result_lines, place_words, refusal_line}
 use Rattle.report.specs.Input.{read_bytes, ahead, behind, text_q, text_t, deck_bytes}
 use Rattle.report.specs.Report.{outcome_of, lines_of}
 
@@ -39,7 +39,7 @@ no_feed (b ∷ s) none = go (eqb b 10) refl (no_feed s (λ m. none (Memᴰ.tail 
 
 -- Where the texts are good, an input that ends before its deck is refused on 5, and so is one without a second line feed.
 pub no_deck : (input : List ℕ) {r p : Run} → Spells r (text_q input) → Spells p (text_t input) → deck_bytes input ≡ [] → lines_of input ≡ bytes "refused 5\n"
-unfolding lines_of outcome_of deck_opening deal_of deal_answer both_read deck_answer deck_reading bad_layout refusal_line placed digits
+unfolding lines_of outcome_of deck_opening deal_of deal_answer both_read deck_answer deck_reading bad_layout refusal_line place_words digits
 no_deck input {r} {p} q t none = rw ((accepted_exactly (text_q input) r).1 q, (accepted_exactly (text_t input) p).1 t, none)
 
 pub no_second_feed : (input : List ℕ) {r p : Run} → Spells r (text_q input) → Spells p (text_t input) → ¬ (10 ∈ behind (read_bytes input)) → lines_of input ≡ bytes "refused 5\n"
@@ -64,5 +64,5 @@ pub empty_printed :
     ∷ bytes "refused 4 Q 0\n"
     ∷ bytes "score 0.00\nchain\n"
     ∷ []
-unfolding lines_of outcome_of read_bytes ahead behind deck_opening deal_of deal_answer both_read reading bad_length meaning_of deck_answer deck_reading bad_layout refusal_line placed result_lines score_line chain_line members member number_text unsigned_text two_digits digits seed_count zero_byte pair_count number16 seed_records pair_records walks settled all_in rows_by flatten seeds_answer key_of best empty in_mask tab
+unfolding lines_of outcome_of read_bytes ahead behind deck_opening deal_of deal_answer both_read reading bad_length meaning_of deck_answer deck_reading bad_layout refusal_line place_words result_lines score_line chain_line members member number_text unsigned_text two_digits digits seed_count zero_byte pair_count number16 seed_records pair_records walks settled all_in rows_by flatten seeds_answer key_of best empty in_mask tab
 empty_printed = refl

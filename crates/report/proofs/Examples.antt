@@ -5,11 +5,14 @@ use mathlib.Core.List.{List, [], ◌∷◌}
 use Prim.Native.Nat.{ℕ}
 use Prim.Native.String.{String}
 use lib.ListN.{replicate}
-use Rattle.answer.specs.declared.Answer.TheVariants.{Accepted}
+use Rattle.std.specs.Prelude.{Ok, Err}
+use Rattle.answer.specs.Refusal.{refusal_at}
+use Rattle.answer.specs.declared.Ground.TheVariants.{ScratchShort}
+use Rattle.answer.specs.declared.Place.TheVariants.{Nothing}
 use Rattle.write.specs.Decimal.{bytes}
 use Rattle.lines.specs.Lines.{printed}
 use Rattle.report.specs.Input.{read_bytes, ahead, behind, text_q, text_t, deck_bytes}
-use Rattle.report.specs.Report.{lines_of, short_report, report_of, memory_short}
+use Rattle.report.specs.Report.{lines_of, report_of, memory_short}
 
 -- Q, T and the deck of an input.
 abbrev parts_of : String → List (List ℕ)
@@ -23,7 +26,7 @@ unfolding read_bytes ahead behind
 inputs_parted = refl
 
 -- Lent memory judged, whatever the input: a number of scratch too few and just enough.
-pub rooms_judged : (input : List ℕ) → report_of input 255 ∷ report_of input 256 ∷ [] ≡ short_report ∷ record { answer = Accepted; lines = printed (lines_of input) } ∷ []
+pub rooms_judged : (input : List ℕ) → report_of input 255 ∷ report_of input 256 ∷ [] ≡ Err (refusal_at ScratchShort Nothing) ∷ Ok (printed (lines_of input)) ∷ []
 unfolding report_of
 rooms_judged input = refl
 

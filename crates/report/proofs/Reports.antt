@@ -1,18 +1,21 @@
 -- What a report answers and leaves, in each case of the code.
 use mathlib.Core.Path.{◌≡◌, refl, sym, ap, ap₂, subst, ◌∙◌}
 use mathlib.Core.Bool.{Bool, true, false, cond}
-use mathlib.Core.List.{List, []}
+use mathlib.Core.List.{List}
 use Prim.Native.Nat.{ℕ, ◌≤◌, ◌<◌}
 use native.Mathlib.Nat.{zero-add}
 use native.Mathlib.Omega.{arith}
-use lib.ListN.{length, take, drop, length-append}
+use lib.ListN.{length, take, drop, replicate, length-append}
 use lib.Seq.{take_at}
 use lib.Dec.{ltb}
 use lib.IntN.{pos}
 use borrow.Author.Tests.{lt-ltb, le-ltb}
-use Rattle.answer.specs.Answer.{said}
-use Rattle.answer.specs.declared.Answer.{Answer}
-use Rattle.answer.specs.declared.Answer.TheVariants.{Accepted, Refused}
+use Rattle.std.specs.Prelude.{Result, Ok, Err}
+use Rattle.answer.specs.Answer.{said, Answer, Accepted, Refused}
+use Rattle.answer.specs.Refusal.{refusal_at, result_of}
+use Rattle.answer.specs.declared.Refusal.{Refusal}
+use Rattle.answer.specs.declared.Ground.TheVariants.{ScratchShort}
+use Rattle.answer.specs.declared.Place.TheVariants.{Nothing}
 use Rattle.write.specs.Puts.{Puts, Room}
 use Rattle.write.specs.Wrote.{with_bytes}
 use Rattle.write.proofs.Puts.{puts_as, puts_output, puts_place}
@@ -22,29 +25,25 @@ use Rattle.decimal.specs.Score.{beyond}
 use Rattle.decimal.proofs.Signs.{total_within}
 use Rattle.best.specs.Best.{scratch_needed}
 use Rattle.best.specs.declared.Best.{Best}
+use Rattle.chain.specs.Acts.{best_chain, grounds}
 use Rattle.chain.specs.State.{State}
 use Rattle.chain.specs.View.{view}
 use Rattle.chain.specs.Opening.{deck_opening, Opens}
 use Rattle.chain.specs.Looking.{best_in, Chains}
 use Rattle.chain.specs.declared.Session.{Session}
-use Rattle.chain.proofs.Looks.{best_most, chosen, chain_passes}
+use Rattle.chain.proofs.Looks.{best_most}
 use Rattle.lines.specs.Lines.{score_line, result_lines, refusal_line, lines_room, printed}
 use Rattle.lines.specs.declared.Lines.{Lines}
 use Rattle.lines.proofs.Lengths.{length_refusal, length_result}
 use Rattle.lines.proofs.Printed.{printed_fits, printed_bytes}
-use Rattle.report.specs.Input.{text_q, text_t}
-use Rattle.report.specs.inner.Steps.{input_between, Parted, ChainPrinted}
-use Rattle.report.specs.Report.{outcome_of, chain_lines, lines_by, lines_of, short_report, report_of, zeroed_by, scratch_left, Reports, memory_short, ReportPut}
-use Rattle.report.specs.declared.Reported.{Reported}
-use Rattle.report.specs.declared.input.Parts.{Parts}
+use Rattle.report.specs.Input.{text_q, text_t, deck_bytes}
+use Rattle.report.specs.inner.Steps.{ChainPrinted}
+use Rattle.report.specs.Report.{outcome_of, chain_lines, lines_by, lines_of, report_of, zeroed_by, scratch_left, Reports, memory_short, ReportPut}
 
 -- The session is opened on the three parts.
-pub opens_input : (input q t d : List ℕ) (parts : Parts) → Parted input parts → q ≡ input_between input parts.q.start parts.q.end → t ≡ input_between input parts.t.start parts.t.end → d ≡ input_between input parts.deck.start parts.deck.end → {a : Answer} {s : Session} → Opens (deck_opening q t d) a s → Opens (outcome_of input) a s
+pub opens_input : (input : List ℕ) {q t d : List ℕ} {a : Answer} {s : Session} → q ≡ text_q input → t ≡ text_t input → d ≡ deck_bytes input → Opens (deck_opening q t d) a s → Opens (outcome_of input) a s
 unfolding outcome_of
-opens_input input q t d parts w is_q is_t is-d {a} {s} o =
-    subst (λ (x : List ℕ). Opens (deck_opening (text_q input) (text_t input) x) a s) (is-d ∙ w.in_deck.holds)
-    (subst (λ (x : List ℕ). Opens (deck_opening (text_q input) x d) a s) (is_t ∙ w.in_t.holds)
-    (subst (λ (x : List ℕ). Opens (deck_opening x t d) a s) (is_q ∙ w.in_q.holds) o))
+opens_input input is_q is_t is_d o = rw (is_q, is_t, is_d) at o
 
 -- The total of an accepted input is one that the writer of texts takes, so that its line has the text that is written for it.
 pub printed_total : (input : List ℕ) {a : Answer} {s : Session} → Opens (outcome_of input) a s → beyond (pos (best_in (outcome_of input).state).total) ≡ false
@@ -71,87 +70,90 @@ lines_some input = go (outcome_of input).answer
     go Accepted = omega arith
     go (Refused g p) = omega arith
 
--- On a scratch that is long enough the best chain is worked out, and zeros are left.
-pub chain_printed : {s : State} {scratch left : List ℕ} {r : Best} {lines : Lines} → scratch_needed ≤ length scratch → Chains s scratch left r → lines ≡ printed (result_lines r.total r.chain) → ChainPrinted s scratch left lines
-chain_printed long c is =
-    let best = chosen c (chain_passes c long) in
-    record { prints = is ∙ ap (λ (x : Best). printed (result_lines x.total x.chain)) best.answers; zeros = best.zeros }
+-- What is made of a best chain is answered like it, and a refusal is handed on.
+module _ {s : State} {scratch left : List ℕ} {r : Result Best Refusal} (c : Chains s scratch left r) where
+  pub chain_printed : {b : Best} {lines : Lines} → r ≡ Ok b → lines ≡ printed (result_lines b.total b.chain) → ChainPrinted s scratch left (Ok lines)
+  chain_printed {b} {lines} ok is = record { prints = go (grounds s (best_chain (length scratch))) (sym ok ∙ c.answers); zeros = c.scratch }
+    where
+      go : (a : Answer) → Ok b ≡ result_of a (best_in s) → Ok lines ≡ result_of a (printed (chain_lines s))
+      go Accepted e =
+          let same : b ≡ best_in s = cc in
+          ap Ok (is ∙ ap (λ (x : Best). printed (result_lines x.total x.chain)) same)
+      go (Refused g p) e = cc
+
+  pub chain_refused : {d : Refusal} → r ≡ Err d → ChainPrinted s scratch left (Err d)
+  chain_refused {d} refused = record { prints = go (grounds s (best_chain (length scratch))) (sym refused ∙ c.answers); zeros = c.scratch }
+    where
+      go : (a : Answer) → Err d ≡ result_of a (best_in s) → Err d ≡ result_of a (printed (chain_lines s))
+      go Accepted e = cc
+      go (Refused g p) e = cc
 
 -- A report, by whether the scratch is too short, and by what the opening answered.
-pub reports_short : (input scratch : List ℕ) → ltb (length scratch) scratch_needed ≡ true → Reports input scratch scratch short_report
+pub reports_short : (input scratch : List ℕ) → ltb (length scratch) scratch_needed ≡ true → Reports input scratch scratch (Err (refusal_at ScratchShort Nothing))
 unfolding report_of scratch_left
 reports_short input scratch short = record { answers = rw short; leaves_scratch = rw short }
 
-module _ (input scratch : List ℕ) {left : List ℕ} {lines : Lines} (long : ltb (length scratch) scratch_needed ≡ false) {a : Answer} {s : Session} (o : Opens (outcome_of input) a s) where
-  reports_by : lines ≡ printed (lines_of input) → left ≡ zeroed_by (outcome_of input).answer scratch → Reports input scratch left (record { answer = Accepted; lines = lines })
+module _ (input scratch : List ℕ) {left : List ℕ} {r : Result Lines Refusal} (long : ltb (length scratch) scratch_needed ≡ false) {a : Answer} {s : Session} (o : Opens (outcome_of input) a s) where
+  reports_by : r ≡ Ok (printed (lines_of input)) → left ≡ zeroed_by (outcome_of input).answer scratch → Reports input scratch left r
   unfolding report_of scratch_left
-  reports_by is e = record { answers = ap (λ (x : Lines). record { answer = Accepted; lines = x }) is ∙ rw long; leaves_scratch = e ∙ rw long }
+  reports_by is e = record { answers = is ∙ rw long; leaves_scratch = e ∙ rw long }
 
-  pub reports_chain : a ≡ Accepted → ChainPrinted (view s) scratch left lines → Reports input scratch left (record { answer = Accepted; lines = lines })
-  unfolding lines_of
+  pub reports_chain : a ≡ Accepted → ChainPrinted (view s) scratch left r → Reports input scratch left r
+  unfolding lines_of grounds
   reports_chain ok put =
       let yes : Accepted ≡ (outcome_of input).answer = sym ok ∙ o.answers in
       let of_input : chain_lines (view s) ≡ lines_of input = ap chain_lines o.leaves ∙ ap (λ (x : Answer). lines_by x (outcome_of input).state) yes in
-      reports_by (put.prints ∙ ap printed of_input) (put.zeros ∙ ap (λ (x : Answer). zeroed_by x scratch) yes)
+      let prints : r ≡ Ok (printed (chain_lines (view s))) = rw long at put.prints in
+      let zeros : left ≡ replicate (length scratch) 0 = rw long at put.zeros in
+      reports_by (prints ∙ ap (λ (l : List ℕ). Ok (printed l)) of_input) (zeros ∙ ap (λ (x : Answer). zeroed_by x scratch) yes)
 
-  pub reports_refusal : (a ≡ Accepted → ⊥) → lines ≡ printed (refusal_line (said a)) → left ≡ scratch → Reports input scratch left (record { answer = Accepted; lines = lines })
+  pub reports_refusal : {lines : Lines} → (a ≡ Accepted → ⊥) → r ≡ Ok lines → lines ≡ printed (refusal_line (said a)) → left ≡ scratch → Reports input scratch left r
   unfolding lines_of
-  reports_refusal denied is same = go (outcome_of input).answer o.answers refl
+  reports_refusal denied put is same = go (outcome_of input).answer o.answers refl
     where
-      go : (x : Answer) → a ≡ x → x ≡ (outcome_of input).answer → Reports input scratch left (record { answer = Accepted; lines = lines })
+      go : (x : Answer) → a ≡ x → x ≡ (outcome_of input).answer → Reports input scratch left r
       go Accepted f e = absurd (denied f)
       go (Refused g p) f e =
           reports_by
-          (is ∙ ap (λ (y : Answer). printed (refusal_line (said y))) f ∙ ap (λ (y : Answer). printed (lines_by y (outcome_of input).state)) e)
+          (put ∙ ap Ok (is ∙ ap (λ (y : Answer). printed (refusal_line (said y))) f ∙ ap (λ (y : Answer). printed (lines_by y (outcome_of input).state)) e))
           (same ∙ ap (λ (y : Answer). zeroed_by y scratch) e)
 
--- The lines that are answered: none on ground 21.
-module _ {input scratch left : List ℕ} {r : Reported} (w : Reports input scratch left r) where
-  abbrev answered : List ℕ
-  answered = cond (ltb (length scratch) scratch_needed) [] (lines_of input)
-
-  answered_are : r.lines ≡ printed answered
+-- The lines of a report are those of its input, and it was not too short of scratch.
+module _ {input scratch left : List ℕ} {lines : Lines} (w : Reports input scratch left (Ok lines)) where
+  reported : (ltb (length scratch) scratch_needed ≡ false) × (lines ≡ printed (lines_of input))
   unfolding report_of
-  answered_are = ap (λ (x : Reported). x.lines) w.answers ∙ go (ltb (length scratch) scratch_needed)
+  reported = go (ltb (length scratch) scratch_needed) refl w.answers
     where
-      go : (b : Bool) → (cond b short_report (record { answer = Accepted; lines = printed (lines_of input) })).lines ≡ printed (cond b [] (lines_of input))
-      go true = refl
-      go false = refl
+      go : (b : Bool) → ltb (length scratch) scratch_needed ≡ b → Ok lines ≡ cond b (Err (refusal_at ScratchShort Nothing)) (Ok (printed (lines_of input))) → (ltb (length scratch) scratch_needed ≡ false) × (lines ≡ printed (lines_of input))
+      go true e f = cc
+      go false e f = (e, cc)
 
-  answered_short : length answered ≤ lines_room
-  answered_short = go (ltb (length scratch) scratch_needed)
-    where
-      go : (b : Bool) → length (cond b [] (lines_of input)) ≤ lines_room
-      go true = omega arith
-      go false = lines_short input
-
-  pub answered_fits : r.lines.length ≤ lines_room
-  answered_fits = printed_fits answered answered_are answered_short
+  pub answered_fits : lines.length ≤ lines_room
+  answered_fits = printed_fits (lines_of input) reported.1 (lines_short input)
 
   -- They are put to an output that holds every report.
-  pub report_put : {out after : List ℕ} {n : ℕ} → lines_room ≤ length out → Puts (take r.lines.length r.lines.bytes) 0 out after n → ReportPut input scratch left out after n
-  unfolding memory_short scratch_left
-  report_put {out} {after} {n} holds put = go (ltb (length scratch) scratch_needed) refl
-    where
-      room : Room answered 0 out
-      room = record { fits = omega (arith, answered_short) }
+  pub report_put : {out after : List ℕ} {n : ℕ} → lines_room ≤ length out → Puts (take lines.length lines.bytes) 0 out after n → ReportPut input scratch left out after n
+  unfolding memory_short
+  report_put {out} {after} {n} holds put =
+      let room : Room (lines_of input) 0 out = record { fits = omega (arith, lines_short input) } in
+      let same : Puts (lines_of input) 0 out after n = puts_as (printed_bytes (lines_of input) reported.1) put in
+      let no = le-ltb (length out) lines_room holds in
+      record {
+        count = puts_place room same ∙ zero-add (length (lines_of input)) ∙ rw (no, reported.0);
+        leaves_scratch = w.leaves_scratch ∙ rw (no, reported.0);
+        output_left = puts_output room same ∙ sets_first out (lines_of input) (omega (arith, lines_short input)) ∙ rw (no, reported.0);
+      }
 
-      same : Puts answered 0 out after n
-      same = puts_as (printed_bytes answered answered_are) put
-
-      count : n ≡ length answered
-      count = puts_place room same ∙ zero-add (length answered)
-
-      output : after ≡ with_bytes answered out
-      output = puts_output room same ∙ sets_first out answered (omega (arith, answered_short))
-
-      go : (b : Bool) → ltb (length scratch) scratch_needed ≡ b → ReportPut input scratch left out after n
-      go true e =
-          let no = le-ltb (length out) lines_room holds in
-          record { count = count ∙ rw (no, e); leaves_scratch = w.leaves_scratch ∙ rw (no, e); output_left = output ∙ rw (no, e) }
-      go false e =
-          let no = le-ltb (length out) lines_room holds in
-          record { count = count ∙ rw (no, e); leaves_scratch = w.leaves_scratch ∙ rw (no, e); output_left = output ∙ rw (no, e) }
+-- A refused one is short of scratch, and leaves the output as it was.
+pub report_denied : {input scratch left : List ℕ} {d : Refusal} (out : List ℕ) → Reports input scratch left (Err d) → lines_room ≤ length out → ReportPut input scratch left out out 0
+unfolding report_of scratch_left memory_short
+report_denied {input} {scratch} {left} {d} out w holds = go (ltb (length scratch) scratch_needed) refl w.answers
+  where
+    go : (b : Bool) → ltb (length scratch) scratch_needed ≡ b → Err d ≡ cond b (Err (refusal_at ScratchShort Nothing)) (Ok (printed (lines_of input))) → ReportPut input scratch left out out 0
+    go true e f =
+        let no = le-ltb (length out) lines_room holds in
+        record { count = rw (no, e); leaves_scratch = w.leaves_scratch ∙ rw (no, e); output_left = rw (no, e) }
+    go false e f = cc
 
 -- An output that does not hold every report is left as it was, and so is the scratch.
 pub report_not_put : (input scratch out : List ℕ) → length out < lines_room → ReportPut input scratch scratch out out 0

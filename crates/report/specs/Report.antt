@@ -1,17 +1,17 @@
--- The program's work (document 01, "Printed lines"): the lines of an input, and what is left in the lent memory.
-use Rattle.std.specs.Prelude.{◌≡◌, Bool, cond, ◌||◌, List, [], ℕ, length, replicate, ltb}
-use Rattle.answer.specs.Answer.{said}
+-- The program's work: the lines of an input, and what is left in the lent memory.
+use Rattle.std.specs.Prelude.{◌≡◌, Bool, cond, ◌||◌, List, ℕ, length, replicate, ltb, Result, Ok, Err}
+use Rattle.answer.specs.Answer.{said, Answer, Accepted, Refused}
+use Rattle.answer.specs.Refusal.{refusal_at}
+use Rattle.answer.specs.declared.Refusal.{Refusal}
 use Rattle.answer.specs.declared.Ground.TheVariants.{ScratchShort}
 use Rattle.answer.specs.declared.Place.TheVariants.{Nothing}
-use Rattle.answer.specs.declared.Answer.{Answer}
-use Rattle.answer.specs.declared.Answer.TheVariants.{Accepted, Refused}
 use Rattle.write.specs.Wrote.{with_bytes}
 use Rattle.best.specs.Best.{scratch_needed}
 use Rattle.chain.specs.State.{State}
 use Rattle.chain.specs.Opening.{Outcome, deck_opening}
 use Rattle.chain.specs.Looking.{best_in}
 use Rattle.lines.specs.Lines.{result_lines, refusal_line, lines_room, printed}
-use Rattle.report.specs.declared.Reported.{Reported}
+use Rattle.lines.specs.declared.Lines.{Lines}
 use Rattle.report.specs.Input.{text_q, text_t, deck_bytes}
 
 -- The session is opened on the input's Q, T and deck.
@@ -29,13 +29,9 @@ lines_by (Refused g p) s = refusal_line (said (Refused g p))
 unfoldable pub lines_of : List ℕ → List ℕ
 lines_of input = lines_by (outcome_of input).answer (outcome_of input).state
 
--- What is answered on ground 21: no lines.
-abbrev pub short_report : Reported
-short_report = record { answer = Refused ScratchShort Nothing; lines = printed [] }
-
 -- What is answered of an input on a scratch of so many numbers: its lines are printed whether its opening is accepted or refused.
-unfoldable pub report_of : List ℕ → ℕ → Reported
-report_of input room = cond (ltb room scratch_needed) short_report (record { answer = Accepted; lines = printed (lines_of input) })
+unfoldable pub report_of : List ℕ → ℕ → Result Lines Refusal
+report_of input room = cond (ltb room scratch_needed) (Err (refusal_at ScratchShort Nothing)) (Ok (printed (lines_of input)))
 
 -- The scratch is zero once best chain has run, and as it was if the opening was refused.
 abbrev pub zeroed_by : Answer → List ℕ → List ℕ
@@ -46,8 +42,8 @@ zeroed_by (Refused g p) xs = xs
 unfoldable pub scratch_left : List ℕ → List ℕ → List ℕ
 scratch_left input xs = cond (ltb (length xs) scratch_needed) xs (zeroed_by (outcome_of input).answer xs)
 
--- What a report promises of its answer and of the scratch before and after.
-pub record Reports (input scratch scratch' : List ℕ) (r : Reported) : Type 0 where
+-- What a report promises of its result and of the scratch before and after.
+pub record Reports (input scratch scratch' : List ℕ) (r : Result Lines Refusal) : Type 0 where
   pub answers : r ≡ report_of input (length scratch)
   pub leaves_scratch : scratch' ≡ scratch_left input scratch
 

@@ -1,7 +1,7 @@
 -- `decimal::read`: one test after the other, in the order of the form.
 use Rattle.std.proofs.Common.{◌≡◌, Bool, ◌&&◌, List, ℕ, ℤ, ◌<◌, eqb, sym, ap, ap₂, ◌∙◌, w32, to_z, of_z}
 use mir.Facts.{to_z-of_z}
-use Rattle.answer.specs.declared.Answer.TheVariants.{Accepted}
+use Rattle.std.specs.Prelude.{Ok, Err}
 use Rattle.table.specs.Rows.{in_range}
 use Rattle.decimal.specs.Score.{minus_first, behind_minus, unsigned_form, unsigned_number, signed_number, number_in}
 use Rattle.decimal.proofs.Readings.{score_other, score_minus, score_out, score_in}
@@ -26,30 +26,30 @@ module _ (text : List ℕ) {unsigned : List ℕ} (behind : unsigned ≡ behind_m
     number_is small e = to_z-of_z {w = w32} (rw e (signed_fits minus size small)) ∙ e ∙ ap₂ signed_number first size_is
 
 pub returns-then-not-unsigned_form : goal.returns-then-not-unsigned_form
-returns-then-not-unsigned_form c = c.no_score.ensures ∙ score_other c.args.text.now (form_is _ c.behind_minus-unsigned.ensures c.unsigned_form.ensures c.if-not-unsigned_form.true)
+returns-then-not-unsigned_form c = ap Err c.at.ensures ∙ score_other c.args.text.now (form_is _ c.behind_minus-unsigned.ensures c.unsigned_form.ensures c.if-not-unsigned_form.true)
 
 pub returns-then-minus_before_zero : goal.returns-then-minus_before_zero
 returns-then-minus_before_zero c =
     let behind = c.behind_minus-unsigned.ensures in
-    c.no_score-then-minus_before_zero.ensures
+    ap Err c.at-then-minus_before_zero.ensures
     ∙ score_minus c.args.text.now (form_is _ behind c.unsigned_form.ensures c.if-not-unsigned_form.false)
-    (minus_is _ behind c.minus_first-minus.ensures c.unsigned_number-hundredths.ensures.0 c.minus_before_zero.ensures c.if-minus_before_zero.true)
+    (minus_is _ behind c.minus_first-minus.ensures c.unsigned_number-hundredths.ensures.number c.minus_before_zero.ensures c.if-minus_before_zero.true)
 
 pub returns-then-not-in_range : goal.returns-then-not-in_range
 returns-then-not-in_range c =
     let behind = c.behind_minus-unsigned.ensures in
     let size = c.unsigned_number-hundredths.ensures in
-    c.no_score-then-not-in_range.ensures
+    ap Err c.at-then-not-in_range.ensures
     ∙ score_out c.args.text.now (form_is _ behind c.unsigned_form.ensures c.if-not-unsigned_form.false)
-    (minus_is _ behind c.minus_first-minus.ensures size.0 c.minus_before_zero.ensures c.if-minus_before_zero.false)
-    (ap in_range (sym (number_is _ behind c.minus_first-minus.ensures size.0 size.1 c.signed-score.ensures)) ∙ sym c.in_range.ensures ∙ c.if-not-in_range.true)
+    (minus_is _ behind c.minus_first-minus.ensures size.number c.minus_before_zero.ensures c.if-minus_before_zero.false)
+    (ap in_range (sym (number_is _ behind c.minus_first-minus.ensures size.number size.small c.signed-score.ensures)) ∙ sym c.in_range.ensures ∙ c.if-not-in_range.true)
 
 pub returns : goal.returns
 returns c =
     let behind = c.behind_minus-unsigned.ensures in
     let size = c.unsigned_number-hundredths.ensures in
-    let number = number_is _ behind c.minus_first-minus.ensures size.0 size.1 c.signed-score.ensures in
-    ap (λ (z : ℤ). record { answer = Accepted; score = z }) number
+    let number = number_is _ behind c.minus_first-minus.ensures size.number size.small c.signed-score.ensures in
+    ap Ok number
     ∙ score_in c.args.text.now (form_is _ behind c.unsigned_form.ensures c.if-not-unsigned_form.false)
-    (minus_is _ behind c.minus_first-minus.ensures size.0 c.minus_before_zero.ensures c.if-minus_before_zero.false)
+    (minus_is _ behind c.minus_first-minus.ensures size.number c.minus_before_zero.ensures c.if-minus_before_zero.false)
     (ap in_range (sym number) ∙ sym c.in_range.ensures ∙ c.if-not-in_range.false)

@@ -1,13 +1,13 @@
--- `form::all_digits`: the digit at the place decides, and then those behind it.
-use Rattle.std.proofs.Common.{sym, ◌∙◌, arith, add-one}
-use Rattle.decimal.proofs.Digits.{all_more, all_none}
+-- `form::all_digits`: every byte is told to be a digit.
+use Rattle.std.proofs.Common.{◌∙◌, rules, tests}
+use Rattle.std.proofs.lemmas.Iterator.{YieldsList-from_slice}
+use Rattle.std.proofs.lemmas.Iterator.Search.{all_from_yields_List}
+use Rattle.decimal.specs.Score.{is_digit}
+use Rattle.decimal.proofs.Forms.{digits_listed}
 use Rattle.decimal.proofs.form.all_digits.Goals as goal
 
-pub returns-then-not-is_digit : goal.returns-then-not-is_digit
-returns-then-not-is_digit c = sym (c.loop-i.invariant.1 ∙ all_more c.args.s.now c.loop-i.i (omega arith) ∙ rw (sym c.is_digit.ensures ∙ c.if-not-is_digit.true))
-
-pub loop-i-preserved : goal.loop-i-preserved
-loop-i-preserved c = (omega arith, c.loop-i.invariant.1 ∙ all_more c.args.s.now c.loop-i.i (omega arith) ∙ rw (sym c.is_digit.ensures ∙ c.if-not-is_digit.false, add-one))
-
 pub returns : goal.returns
-returns c = sym (c.loop-i.invariant.1 ∙ all_none c.args.s.now c.loop-i.i (omega arith))
+unfolding is_digit
+returns c =
+    all_from_yields_List is_digit _ _ _ c.all.ensures.ran (YieldsList-from_slice c.args.s.now cc) (λ x b q k. search (rules, tests))
+    ∙ digits_listed c.args.s.now

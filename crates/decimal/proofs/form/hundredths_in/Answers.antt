@@ -8,5 +8,5 @@ pub returns : goal.returns
 unfolding hundredths_in
 returns c =
     let s = c.args.unsigned.now in
-    let from = c.without-start.result in
-    take_all (length s - from) (drop from s) (omega (arith, length-drop from s)) ∙ rw c.without-start.ensures
+    let from = c.saturating_sub-start.result in
+    take_all (length s - from) (drop from s) (omega (arith, length-drop from s)) ∙ rw c.saturating_sub-start.ensures
