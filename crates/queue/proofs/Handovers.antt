@@ -1,137 +1,151 @@
--- A queue that stands for a state, after one call more.
-use mathlib.Core.Path.{◌≡◌, refl, sym, ap, subst⁻¹, ◌∙◌}
+-- The queue after one call more, by what the call makes of the lanes and the count.
+use mathlib.Core.Path.{◌≡◌, refl, sym, subst, subst⁻¹, ◌∙◌}
 use mathlib.Core.Bool.{Bool, true, false, cond}
 use mathlib.Core.List.{List, [], ◌∷◌, ◌++◌}
 use Prim.Native.Nat.{ℕ, suc, ◌+◌, ◌≤◌, ◌<◌}
 use native.Mathlib.Omega.{arith}
 use lib.ListN.{length, drop}
 use lib.Dec.{eqb}
-use borrow.Author.Tests.{eqb-true, eqb-false}
-use Rattle.answer.specs.declared.Answer.{Answer}
-use Rattle.answer.specs.declared.Answer.TheVariants.{Accepted, Refused}
+use borrow.Author.Tests.{ne_eqb, eqb-true, eqb-false}
+use Rattle.std.proofs.Common.{Fits, w64}
+use Rattle.std.specs.Prelude.{Option, Ok, Err}
+use Rattle.answer.specs.Refusal.{refusal_at}
 use Rattle.answer.specs.declared.Ground.TheVariants.{QueueFull}
 use Rattle.answer.specs.declared.Place.TheVariants.{Nothing}
-use Rattle.queue.specs.Jobs.{Job, QueueState, waiting_count, passes_urgent, offer_answer, after_offer, oldest, turn_of, after_turn}
-use Rattle.queue.specs.Calls.{Call, offer, turn, after_call, state_from_start}
-use Rattle.queue.specs.Rings.{Ring, jobs_of}
-use Rattle.queue.specs.Handing.{Stands, HandedOver, FromStart, ByHistory, Offers, Turns}
+use Rattle.queue.specs.Jobs.{QueueState, waiting_count, is_empty, passes_urgent, offer_answer, after_offer, oldest, turn_of, after_turn}
+use Rattle.queue.specs.Calls.{Call, offer, turn, after_call, state_after, state_from_start}
+use Rattle.queue.specs.Handing.{QueueView, view_of, turns_in_row, passes_by_count, Stands, HandedOver, FromStart, ByHistory, Offers, Turns}
+use Rattle.queue.specs.declared.Job.{Job}
 use Rattle.queue.specs.declared.Kind.{Kind}
 use Rattle.queue.specs.declared.Kind.TheVariants.{Urgent, Ordinary}
-use Rattle.queue.specs.declared.lane.Lane.{Lane}
-use Rattle.queue.specs.declared.Queue.{Queue}
-use Rattle.queue.specs.declared.Turn.{Turn}
-use Rattle.queue.proofs.Ringing.{lane_count}
-use Rattle.queue.proofs.PastTurns.{empty_length, orderly, one_more, offer_free, offer_full, ordinary_turn, ordinary_urgent, ordinary_ordinary, ordinary_row, urgent_turn, urgent_urgent, urgent_ordinary, urgent_row}
+use Rattle.queue.specs.declared.Taken.{Taken}
+use Rattle.queue.proofs.PastTurns.{orderly, one_more, row_three, offer_free, offer_full, ordinary_turn, ordinary_urgent, ordinary_ordinary, ordinary_row, urgent_turn, urgent_urgent, urgent_ordinary, urgent_row}
+
+-- A started queue is handed over by no calls.
+pub at_start : HandedOver (view_of [] [] 0) []
+unfolding state_from_start state_after turns_in_row
+at_start = refl
+
+pub start_handed : FromStart (view_of [] [] 0)
+start_handed = record { calls = []; over = at_start }
 
 -- A queue that stands for the state after the call was handed over by the calls and this one.
-pub handed_on : {q : Queue} (calls : List Call) (call : Call) → Stands q (after_call call (state_from_start calls)) → HandedOver q (calls ++ call ∷ [])
+handed_on : {q : QueueView} (calls : List Call) (call : Call) → Stands q (after_call call (state_from_start calls)) → HandedOver q (calls ++ call ∷ [])
 handed_on {q} calls call h = subst⁻¹ (Stands q) (one_more calls call) h
 
-pub from_start : {q next : Queue} (call : Call) → FromStart q → ByHistory q (λ calls. HandedOver next (calls ++ call ∷ [])) → FromStart next
+from_start : {q next : QueueView} (call : Call) → FromStart q → ByHistory q (λ calls. HandedOver next (calls ++ call ∷ [])) → FromStart next
 from_start call h leaves = record { calls = h.calls ++ call ∷ []; over = leaves h.calls h.over }
 
-module _ {q : Queue} {s : QueueState} (h : Stands q s) where
-  pub urgent_count : length s.urgent ≡ q.urgent.count
-  urgent_count = ap length (sym h.urgent) ∙ lane_count q.urgent
+-- The count of a queue tells the rule of the past turns, whatever calls handed it over.
+pub rule_by_count : {q : QueueView} (calls : List Call) → HandedOver q calls → passes_by_count q ≡ passes_urgent (state_from_start calls)
+unfolding passes_urgent
+rule_by_count calls h = let s = state_from_start calls in rw (h, row_three s (orderly calls))
 
-  pub ordinary_count : length s.ordinary ≡ q.ordinary.count
-  ordinary_count = ap length (sym h.ordinary) ∙ lane_count q.ordinary
+module _ {q : QueueView} (i : FromStart q) where
+  few : length q.urgent + length q.ordinary ≤ 16
+  few = subst⁻¹ (λ (v : QueueView). length v.urgent + length v.ordinary ≤ 16) i.over (orderly i.calls).few
 
-  pub both_counts : q.urgent.count + q.ordinary.count ≡ waiting_count s
-  both_counts = omega (arith, urgent_count, ordinary_count)
+  three : q.in_row ≤ 3
+  three = subst⁻¹ (λ (v : QueueView). v.in_row ≤ 3) i.over (orderly i.calls).three
 
-  -- A lane with one job more, in a queue that is not full.
-  module _ (job : Job) (free : q.urgent.count + q.ordinary.count < 16) (l : Lane) (ring : Ring l) where
-    abbrev with_urgent : Queue
-    with_urgent = record { urgent = l; ordinary = q.ordinary; in_row = q.in_row }
+-- An offer to a queue that is full, and to one with room.
+module _ {q : QueueView} (i : FromStart q) where
+  full_offered : (kind : Kind) (job : Job) → length q.urgent + length q.ordinary ≡ 16 → Offers q kind job (Err (refusal_at QueueFull Nothing)) q
+  unfolding offer_answer
+  full_offered kind job full =
+      record {
+        answers = λ calls h. rw (sixteen calls h);
+        leaves = leaves;
+        handed = i;
+        refused = refl;
+      }
+    where
+      sixteen : ByHistory q (λ calls. length (state_from_start calls).urgent + length (state_from_start calls).ordinary ≡ 16)
+      sixteen calls h = subst (λ (v : QueueView). length v.urgent + length v.ordinary ≡ 16) h full
 
-    abbrev with_ordinary : Queue
-    with_ordinary = record { urgent = q.urgent; ordinary = l; in_row = q.in_row }
+      leaves : ByHistory q (λ calls. HandedOver q (calls ++ offer kind job ∷ []))
+      leaves calls h = handed_on calls (offer kind job) (subst⁻¹ (Stands q) (offer_full kind job (state_from_start calls) (sixteen calls h)) h)
 
-    pub urgent_offered : {kind : Kind} → kind ≡ Urgent → jobs_of l ≡ jobs_of q.urgent ++ job ∷ [] → Stands with_urgent (after_offer kind job s)
-    urgent_offered k e =
-        subst⁻¹ (λ (x : Kind). Stands with_urgent (after_offer x job s)) k
-        (subst⁻¹ (Stands with_urgent) (offer_free Urgent job s (omega (arith, both_counts)))
-        (record { urgent_ring = ring; ordinary_ring = h.ordinary_ring; urgent = e ∙ rw h.urgent; ordinary = h.ordinary; in_row = h.in_row }))
+  few_by : (calls : List Call) → HandedOver q calls → (length q.urgent + length q.ordinary ≡ 16 → ⊥) → length (state_from_start calls).urgent + length (state_from_start calls).ordinary < 16
+  few_by calls h room = subst (λ (v : QueueView). length v.urgent + length v.ordinary < 16) h (omega (arith, few i, room))
 
-    pub ordinary_offered : {kind : Kind} → kind ≡ Ordinary → jobs_of l ≡ jobs_of q.ordinary ++ job ∷ [] → Stands with_ordinary (after_offer kind job s)
-    ordinary_offered k e =
-        subst⁻¹ (λ (x : Kind). Stands with_ordinary (after_offer x job s)) k
-        (subst⁻¹ (Stands with_ordinary) (offer_free Ordinary job s (omega (arith, both_counts)))
-        (record { urgent_ring = h.urgent_ring; ordinary_ring = ring; urgent = h.urgent; ordinary = e ∙ rw h.ordinary; in_row = h.in_row }))
-
-  -- A lane without its oldest job.
-  module _ (l : Lane) (ring : Ring l) where
-    pub ordinary_turned : passes_urgent s ≡ true → jobs_of l ≡ drop 1 (jobs_of q.ordinary) → Stands (record { urgent = q.urgent; ordinary = l; in_row = 0 }) (after_turn s)
-    ordinary_turned p e =
-        record {
-          urgent_ring = h.urgent_ring;
-          ordinary_ring = ring;
-          urgent = h.urgent ∙ sym (ordinary_urgent s p);
-          ordinary = e ∙ ap (drop 1) h.ordinary ∙ sym (ordinary_ordinary s p);
-          in_row = sym (ordinary_row s p);
-        }
-
-    pub urgent_turned : passes_urgent s ≡ false → jobs_of l ≡ drop 1 (jobs_of q.urgent) → Stands (record { urgent = l; ordinary = q.ordinary; in_row = cond (eqb q.ordinary.count 0) 0 (suc q.in_row) }) (after_turn s)
-    urgent_turned p e =
-        record {
-          urgent_ring = ring;
-          ordinary_ring = h.ordinary_ring;
-          urgent = e ∙ ap (drop 1) h.urgent ∙ sym (urgent_urgent s p);
-          ordinary = h.ordinary ∙ sym (urgent_ordinary s p);
-          in_row = sym (urgent_row s p ∙ rw (empty_length s.ordinary, ordinary_count, h.in_row));
-        }
-
--- What the calls promise, from what their parts do. A queue that is full hands itself back.
-module _ {q : Queue} (given-over : FromStart q) where
-  module _ (kind : Kind) (job : Job) {full : Bool} (tells : ByHistory q (λ calls. full ≡ eqb (waiting_count (state_from_start calls)) 16)) where
-    pub refuses : {a : Answer} → full ≡ true → a ≡ Refused QueueFull Nothing → Offers q kind job (record { answer = a; queue = q })
+  module _ (job : Job) (room : length q.urgent + length q.ordinary ≡ 16 → ⊥) where
+    more_offers : (kind : Kind) (next : QueueView) → ((calls : List Call) → HandedOver q calls → Stands next (after_offer kind job (state_from_start calls))) → Offers q kind job (Ok (tt {0})) next
     unfolding offer_answer
-    refuses e a =
+    more_offers kind next stands =
         record {
-          answers = λ calls h. a ∙ rw (sym (tells calls h), e);
+          answers = λ calls h. let s = state_from_start calls in let less = few_by calls h room in rw (ne_eqb (waiting_count s) 16 (λ e. omega arith));
           leaves = leaves;
-          handed = from_start (offer kind job) given-over leaves;
-          refused = λ n. refl;
+          handed = from_start (offer kind job) i leaves;
+          refused = tt;
         }
       where
-        leaves : ByHistory q (λ calls. HandedOver q (calls ++ offer kind job ∷ []))
-        leaves calls h = handed_on calls (offer kind job) (subst⁻¹ (Stands q) (offer_full kind job (state_from_start calls) (eqb-true _ _ (sym (tells calls h) ∙ e))) h)
+        leaves : ByHistory q (λ calls. HandedOver next (calls ++ offer kind job ∷ []))
+        leaves calls h = handed_on calls (offer kind job) (stands calls h)
 
-    pub accepts : {next : Queue} → full ≡ false → ByHistory q (λ calls. HandedOver next (calls ++ offer kind job ∷ [])) → Offers q kind job (record { answer = Accepted; queue = next })
-    unfolding offer_answer
-    accepts e leaves =
-        record {
-          answers = λ calls h. rw (sym (tells calls h), e);
-          leaves = leaves;
-          handed = from_start (offer kind job) given-over leaves;
-          refused = λ n. absurd (n refl);
-        }
+    urgent_offers : Offers q Urgent job (Ok (tt {0})) (view_of (q.urgent ++ job ∷ []) q.ordinary q.in_row)
+    urgent_offers = more_offers Urgent _ (λ calls h. subst⁻¹ (λ (s : QueueState). Stands (view_of (q.urgent ++ job ∷ []) q.ordinary q.in_row) s) (offer_free Urgent job (state_from_start calls) (few_by calls h room)) (rw h))
 
-    pub has_room : full ≡ false → q.urgent.count + q.ordinary.count < 16
-    has_room e =
-        let h = given-over.over in
-        let other = eqb-false (waiting_count (state_from_start given-over.calls)) 16 (sym (tells given-over.calls h) ∙ e) in
-        omega (arith, both_counts h, (orderly given-over.calls).few)
+    ordinary_offers : Offers q Ordinary job (Ok (tt {0})) (view_of q.urgent (q.ordinary ++ job ∷ []) q.in_row)
+    ordinary_offers = more_offers Ordinary _ (λ calls h. subst⁻¹ (λ (s : QueueState). Stands (view_of q.urgent (q.ordinary ++ job ∷ []) q.in_row) s) (offer_free Ordinary job (state_from_start calls) (few_by calls h room)) (rw h))
 
-  module _ {passed : Bool} (tells : ByHistory q (λ calls. passed ≡ passes_urgent (state_from_start calls))) (l : Lane) (ring : Ring l) where
-    pub takes_ordinary : {t : Turn} → passed ≡ true → t ≡ oldest Ordinary (jobs_of q.ordinary) → jobs_of l ≡ drop 1 (jobs_of q.ordinary) → Turns q (record { taken = t; queue = record { urgent = q.urgent; ordinary = l; in_row = 0 } })
-    takes_ordinary {t} p o e = record { takes = takes; leaves = leaves; handed = from_start turn given-over leaves }
-      where
-        takes : ByHistory q (λ calls. t ≡ turn_of (state_from_start calls))
-        takes calls h = o ∙ ap (oldest Ordinary) h.ordinary ∙ sym (ordinary_turn (state_from_start calls) (sym (tells calls h) ∙ p))
+-- A turn of a queue, by whether it passes the urgent jobs over.
+module _ {q : QueueView} (i : FromStart q) where
+  turns : (taken : Option Taken) (next : QueueView) → ((calls : List Call) → HandedOver q calls → (taken ≡ turn_of (state_from_start calls)) × Stands next (after_turn (state_from_start calls))) → Turns q taken next
+  turns taken next both = record { takes = λ calls h. (both calls h).0; leaves = leaves; handed = from_start turn i leaves }
+    where
+      leaves : ByHistory q (λ calls. HandedOver next (calls ++ turn ∷ []))
+      leaves calls h = handed_on calls turn (both calls h).1
 
-        leaves : ByHistory q (λ calls. HandedOver (record { urgent = q.urgent; ordinary = l; in_row = 0 }) (calls ++ turn ∷ []))
-        leaves calls h = handed_on calls turn (ordinary_turned h l ring (sym (tells calls h) ∙ p) e)
+  ordinary_turns : passes_by_count q ≡ true → Turns q (oldest Ordinary q.ordinary) (view_of q.urgent (drop 1 q.ordinary) 0)
+  ordinary_turns p = turns _ _ (λ calls h.
+      let s = state_from_start calls in
+      let passed = sym (rule_by_count calls h) ∙ p in
+      (rw (ordinary_turn s passed, h), rw (h, ordinary_urgent s passed, ordinary_ordinary s passed, ordinary_row s passed)))
 
-    pub takes_urgent : {t : Turn} {n : ℕ} → passed ≡ false → t ≡ oldest Urgent (jobs_of q.urgent) → jobs_of l ≡ drop 1 (jobs_of q.urgent) → n ≡ cond (eqb q.ordinary.count 0) 0 (suc q.in_row) → Turns q (record { taken = t; queue = record { urgent = l; ordinary = q.ordinary; in_row = n } })
-    takes_urgent {t} {n} p o e r = record { takes = takes; leaves = leaves; handed = from_start turn given-over leaves }
-      where
-        takes : ByHistory q (λ calls. t ≡ turn_of (state_from_start calls))
-        takes calls h = o ∙ ap (oldest Urgent) h.urgent ∙ sym (urgent_turn (state_from_start calls) (sym (tells calls h) ∙ p))
+  urgent_turns : passes_by_count q ≡ false → Turns q (oldest Urgent q.urgent) (view_of (drop 1 q.urgent) q.ordinary (cond (is_empty q.ordinary) 0 (suc q.in_row)))
+  urgent_turns p = turns _ _ (λ calls h.
+      let s = state_from_start calls in
+      let due = sym (rule_by_count calls h) ∙ p in
+      (rw (urgent_turn s due, h), rw (h, urgent_urgent s due, urgent_ordinary s due, urgent_row s due)))
 
-        leaves : ByHistory q (λ calls. HandedOver (record { urgent = l; ordinary = q.ordinary; in_row = n }) (calls ++ turn ∷ []))
-        leaves calls h = handed_on calls turn (subst⁻¹ (λ (k : ℕ). Stands (record { urgent = l; ordinary = q.ordinary; in_row = k }) (after_turn (state_from_start calls))) r (urgent_turned h l ring (sym (tells calls h) ∙ p) e))
+abbrev Full : Bool → QueueView → Type 0
+Full b q = eqb (length q.urgent + length q.ordinary) 16 ≡ b
 
-  pub row_small : q.in_row ≤ 3
-  row_small = omega (arith, given-over.over.in_row, (orderly given-over.calls).three)
+-- The same of a queue's fields, as the calls leave them.
+module _ {q : QueueView} {u o : List Job} {r : ℕ} (shows : view_of u o r ≡ q) (i : FromStart (view_of u o r)) where
+  pub refuses : {kind : Kind} {job : Job} → Full true q → Offers q kind job (Err (refusal_at QueueFull Nothing)) q
+  refuses {kind} {job} full = full_offered (subst FromStart shows i) kind job (eqb-true _ 16 full)
+
+  pub urgent_room : Full false q → length u < 16
+  urgent_room room = subst⁻¹ (λ (v : QueueView). length v.urgent < 16) shows (let free = eqb-false (length q.urgent + length q.ordinary) 16 room in omega (arith, few (subst FromStart shows i)))
+
+  pub ordinary_room : Full false q → length o < 16
+  ordinary_room room = subst⁻¹ (λ (v : QueueView). length v.ordinary < 16) shows (let free = eqb-false (length q.urgent + length q.ordinary) 16 room in omega (arith, few (subst FromStart shows i)))
+
+  pub urgent_offered : {kind : Kind} {job : Job} {more : List Job} {next : QueueView} → Full false q → kind ≡ Urgent → next ≡ view_of more o r → more ≡ u ++ job ∷ [] → Offers q kind job (Ok (tt {0})) next
+  urgent_offered {job = job} {more = more} room k n e = rw (k, n, e) (subst (λ (v : QueueView). Offers v Urgent job (Ok (tt {0})) (view_of (u ++ job ∷ []) o r)) shows (urgent_offers i job (eqb-false _ 16 (subst⁻¹ (Full false) shows room))))
+
+  pub ordinary_offered : {kind : Kind} {job : Job} {more : List Job} {next : QueueView} → Full false q → kind ≡ Ordinary → next ≡ view_of u more r → more ≡ o ++ job ∷ [] → Offers q kind job (Ok (tt {0})) next
+  ordinary_offered {job = job} {more = more} room k n e = rw (k, n, e) (subst (λ (v : QueueView). Offers v Ordinary job (Ok (tt {0})) (view_of u (o ++ job ∷ []) r)) shows (ordinary_offers i job (eqb-false _ 16 (subst⁻¹ (Full false) shows room))))
+
+  pub urgent_more : (job : Job) {more : List Job} → Full false q → more ≡ u ++ job ∷ [] → FromStart (view_of more o r)
+  urgent_more job room e = (urgent_offered {job = job} room refl refl e).handed
+
+  pub ordinary_more : (job : Job) {more : List Job} → Full false q → more ≡ o ++ job ∷ [] → FromStart (view_of u more r)
+  ordinary_more job room e = (ordinary_offered {job = job} room refl refl e).handed
+
+  pub row_fits : Fits w64 (r + 1)
+  row_fits = let h = three i in omega arith
+
+  pub ordinary_taken : {taken : Option Taken} {rest : List Job} {next : QueueView} → passes_by_count q ≡ true → next ≡ view_of u rest 0 → taken ≡ oldest Ordinary o → rest ≡ drop 1 o → Turns q taken next
+  ordinary_taken {taken} {rest} {next} p n t e = subst (λ (v : QueueView). Turns v taken next) shows (rw (n, t, e) (ordinary_turns i (subst⁻¹ (λ (v : QueueView). passes_by_count v ≡ true) shows p)))
+
+  pub urgent_taken : {taken : Option Taken} {rest : List Job} {row : ℕ} {next : QueueView} → passes_by_count q ≡ false → next ≡ view_of rest o row → taken ≡ oldest Urgent u → rest ≡ drop 1 u → row ≡ cond (is_empty q.ordinary) 0 (suc q.in_row) → Turns q taken next
+  urgent_taken {taken} {rest} {row} {next} p n t e m = subst (λ (v : QueueView). Turns v taken next) shows (rw (n, t, e, subst⁻¹ (λ (v : QueueView). row ≡ cond (is_empty v.ordinary) 0 (suc v.in_row)) shows m) (urgent_turns i (subst⁻¹ (λ (v : QueueView). passes_by_count v ≡ false) shows p)))
+
+  pub ordinary_less : {rest : List Job} → passes_by_count q ≡ true → rest ≡ drop 1 o → FromStart (view_of u rest 0)
+  ordinary_less p e = (ordinary_taken p refl refl e).handed
+
+  pub urgent_less : {rest : List Job} {row : ℕ} → passes_by_count q ≡ false → rest ≡ drop 1 u → row ≡ cond (is_empty q.ordinary) 0 (suc q.in_row) → FromStart (view_of rest o row)
+  urgent_less p e n = (urgent_taken p refl refl e n).handed

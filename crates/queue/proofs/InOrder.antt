@@ -3,11 +3,10 @@ use mathlib.Core.Path.{◌≡◌, refl, sym, ap, ◌∙◌}
 use mathlib.Core.Bool.{Bool, true, false, cond}
 use mathlib.Core.List.{List, [], ◌∷◌, ◌++◌, append-nil, append_assoc}
 use lib.ListN.{drop}
-use Rattle.answer.specs.Answer.{decide}
-use Rattle.answer.specs.declared.Answer.{Answer}
-use Rattle.answer.specs.declared.Answer.TheVariants.{Accepted, Refused}
-use Rattle.queue.specs.Jobs.{Job, QueueState, started, waiting, with_waiting, offer_answer, after_offer, passes_urgent, oldest, turn_of, after_turn}
+use Rattle.answer.specs.Answer.{decide, Answer, Accepted, Refused}
+use Rattle.queue.specs.Jobs.{QueueState, started, waiting, with_waiting, offer_answer, after_offer, passes_urgent, oldest, turn_of, after_turn}
 use Rattle.queue.specs.Calls.{Call, offer, turn, state_after, state_from_start, of_kind, jobs_in, accepted_by, accepted_in, taken_in}
+use Rattle.queue.specs.declared.Job.{Job}
 use Rattle.queue.specs.declared.Kind.{Kind}
 use Rattle.queue.specs.declared.Kind.TheVariants.{Urgent, Ordinary}
 use Rattle.queue.proofs.PastTurns.{ordinary_turn, ordinary_urgent, ordinary_ordinary, urgent_turn, urgent_urgent, urgent_ordinary}
@@ -26,13 +25,11 @@ offer_waits kind other job s = go kind other (offer_answer s)
 
 -- The oldest of a list is taken from its front, as a job of its own kind alone.
 pub oldest_taken : (kind : Kind) (jobs : List Job) → jobs ≡ jobs_in kind (oldest kind jobs) ++ drop 1 jobs
-unfolding oldest
 oldest_taken kind [] = refl
 oldest_taken Urgent (job ∷ jobs) = refl
 oldest_taken Ordinary (job ∷ jobs) = refl
 
 pub other_taken : (kind other : Kind) → of_kind kind other ≡ false → (jobs : List Job) → jobs_in kind (oldest other jobs) ≡ []
-unfolding oldest
 other_taken kind other e [] = refl
 other_taken kind other e (job ∷ jobs) = rw e
 

@@ -1,4 +1,3 @@
-pub mod Ringing
 pub mod PastTurns
 pub mod Handovers
 pub mod Grounds

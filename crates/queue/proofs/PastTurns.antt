@@ -7,12 +7,11 @@ use native.Mathlib.Omega.{arith}
 use lib.ListN.{length, drop, length-append, length-drop}
 use lib.Dec.{leb, eqb}
 use borrow.Author.Tests.{le-leb, leb-true, leb-false, eqb-true, eqb-false, eq-eqb, ne_eqb}
-use Rattle.answer.specs.Answer.{decide}
-use Rattle.answer.specs.declared.Answer.{Answer}
-use Rattle.answer.specs.declared.Answer.TheVariants.{Accepted, Refused}
-use Rattle.queue.specs.Jobs.{Job, PastTurn, QueueState, started, waiting, with_waiting, waiting_count, offer_answer, after_offer, took_urgent, counts, last_three, is_empty, passes_urgent, oldest, turn_of, after_turn}
+use Rattle.answer.specs.Answer.{decide, Answer, Accepted, Refused}
+use Rattle.queue.specs.Jobs.{PastTurn, QueueState, started, waiting, with_waiting, waiting_count, offer_answer, after_offer, took_urgent, counts, last_three, is_empty, passes_urgent, oldest, turn_of, after_turn}
 use Rattle.queue.specs.Calls.{Call, offer, turn, after_call, state_after, state_from_start}
 use Rattle.queue.specs.Handing.{turns_in_row, Orderly}
+use Rattle.queue.specs.declared.Job.{Job}
 use Rattle.queue.specs.declared.Kind.{Kind}
 use Rattle.queue.specs.declared.Kind.TheVariants.{Urgent, Ordinary}
 
@@ -80,7 +79,7 @@ module _ (s : QueueState) (passed : passes_urgent s ≡ true) where
   ordinary_ordinary = rw passed
 
   pub ordinary_row : turns_in_row (after_turn s).past ≡ 0
-  unfolding after_turn turn_of oldest turns_in_row
+  unfolding after_turn turn_of turns_in_row
   ordinary_row = rw passed (go s.ordinary)
     where
       go : (jobs : List Job) → cond (took_urgent (oldest Ordinary jobs) && not (is_empty s.ordinary)) (suc (turns_in_row s.past)) 0 ≡ 0
@@ -110,7 +109,7 @@ module _ (s : QueueState) (due : passes_urgent s ≡ false) where
   urgent_ordinary = rw due
 
   pub urgent_row : turns_in_row (after_turn s).past ≡ cond (is_empty s.ordinary) 0 (suc (turns_in_row s.past))
-  unfolding after_turn turn_of oldest turns_in_row
+  unfolding after_turn turn_of turns_in_row
   urgent_row = rw due (go s.urgent some_urgent (is_empty s.ordinary))
     where
       go : (jobs : List Job) → is_empty jobs ≡ false → (b : Bool) → cond (took_urgent (oldest Urgent jobs) && not b) (suc (turns_in_row s.past)) 0 ≡ cond b 0 (suc (turns_in_row s.past))

@@ -5,13 +5,13 @@ use mathlib.Core.List.{List, [], ◌∷◌, ◌++◌, append_assoc}
 use Prim.Native.Nat.{ℕ, zero, suc, ◌+◌, ◌-◌, ◌*◌, ◌/◌, ◌≤◌, ◌<◌}
 use native.Mathlib.Omega.{arith}
 use lib.ListN.{length, drop}
-use Rattle.queue.specs.Jobs.{Job, QueueState, started, waiting, is_empty, passes_urgent, after_offer, oldest, turn_of, after_turn}
+use Rattle.queue.specs.Jobs.{QueueState, started, waiting, is_empty, passes_urgent, after_offer, oldest, took, turn_of, after_turn}
 use Rattle.queue.specs.Calls.{Call, offer, turn, after_call, state_after, state_from_start, turns_in, jobs_in, accepted_by, taken_in}
 use Rattle.queue.specs.Waits.{TakenWithin}
 use Rattle.queue.specs.Handing.{turns_in_row}
+use Rattle.queue.specs.declared.Job.{Job}
 use Rattle.queue.specs.declared.Kind.{Kind}
 use Rattle.queue.specs.declared.Kind.TheVariants.{Urgent, Ordinary}
-use Rattle.queue.specs.declared.Turn.TheVariants.{Took}
 use Rattle.queue.proofs.PastTurns.{all_three, offer_past, orderly, ordinary_turn, ordinary_urgent, ordinary_ordinary, ordinary_row, not_three, urgent_turn, urgent_urgent, urgent_ordinary, urgent_row}
 use Rattle.queue.proofs.InOrder.{offer_waits, other_taken}
 
@@ -22,11 +22,11 @@ record Served (n : ℕ) (kind : Kind) (ahead : List Job) (job : Job) (calls : Li
   apart : calls ≡ before ++ turn ∷ behind
   soon : turns_in before < n
   ahead_first : taken_in kind before s ≡ ahead
-  taken : turn_of (state_after before s) ≡ Took kind job.query job.structure
+  taken : turn_of (state_after before s) ≡ took kind job
 
 module _ {kind : Kind} {job : Job} {calls : List Call} {s : QueueState} where
   -- The turn that comes next takes it.
-  served_now : {n : ℕ} → 0 < n → turn_of s ≡ Took kind job.query job.structure → Served n kind [] job (turn ∷ calls) s
+  served_now : {n : ℕ} → 0 < n → turn_of s ≡ took kind job → Served n kind [] job (turn ∷ calls) s
   unfolding turns_in taken_in state_after
   served_now h e = record { before = []; behind = calls; apart = refl; soon = h; ahead_first = refl; taken = e }
 
@@ -74,7 +74,7 @@ OrdinaryServed calls s n = (ahead rest : List Job) (job : Job) → s.ordinary �
 
 module _ (calls : List Call) (s : QueueState) (m : ℕ) (later : OrdinaryServed calls (after_turn s) m) where
   ordinary_next : (b : Bool) → passes_urgent s ≡ b → OrdinaryServed (turn ∷ calls) s (suc m)
-  unfolding turns_in oldest
+  unfolding turns_in
   ordinary_next true p [] rest job e l t = served_now (omega arith) (ordinary_turn s p ∙ ap (oldest Ordinary) e)
   ordinary_next true p (a ∷ ahead) rest job e l t =
       let none = ordinary_row s p in
@@ -104,7 +104,7 @@ module _ (calls : List Call) (s : QueueState) (m : ℕ) (later : UrgentServed ca
   row_more false = omega arith
 
   urgent_next : (b : Bool) → passes_urgent s ≡ b → UrgentServed (turn ∷ calls) s (suc m)
-  unfolding turns_in oldest
+  unfolding turns_in
   urgent_next true p ahead rest job e r l t =
       let none = ordinary_row s p in
       let three = all_three s (ap is_empty e ∙ some_wait ahead rest job) p in

@@ -1,11 +1,11 @@
 -- Lists of offers and turns, the first call first: the state that they leave, and what they accepted and took.
-use Rattle.std.specs.Prelude.{Bool, true, false, cond, List, [], ◌∷◌, ◌++◌, ℕ, suc}
+use Rattle.std.specs.Prelude.{Bool, true, false, cond, List, [], ◌∷◌, ◌++◌, ℕ, suc, Option, Some, None}
 use Rattle.answer.specs.Answer.{decide}
-use Rattle.queue.specs.Jobs.{Job, QueueState, started, offer_answer, after_offer, turn_of, after_turn}
+use Rattle.queue.specs.Jobs.{QueueState, started, offer_answer, after_offer, turn_of, after_turn}
+use Rattle.queue.specs.declared.Job.{Job}
 use Rattle.queue.specs.declared.Kind.{Kind}
 use Rattle.queue.specs.declared.Kind.TheVariants.{Urgent, Ordinary}
-use Rattle.queue.specs.declared.Turn.{Turn}
-use Rattle.queue.specs.declared.Turn.TheVariants.{None, Took}
+use Rattle.queue.specs.declared.Taken.{Taken}
 
 pub data Call : Type 0 where
   offer : Kind → Job → Call
@@ -40,9 +40,9 @@ abbrev pub accepted_by : Kind → Call → QueueState → List Job
 accepted_by kind (offer other job) s = decide (offer_answer s) (cond (of_kind kind other) (job ∷ []) []) []
 accepted_by kind turn s = []
 
-abbrev pub jobs_in : Kind → Turn → List Job
+abbrev pub jobs_in : Kind → Option Taken → List Job
 jobs_in kind None = []
-jobs_in kind (Took other query structure) = cond (of_kind kind other) (record { query = query; structure = structure } ∷ []) []
+jobs_in kind (Some taken) = cond (of_kind kind taken.kind) (taken.job ∷ []) []
 
 abbrev pub taken_by : Kind → Call → QueueState → List Job
 taken_by kind (offer other job) s = []

@@ -1,4 +1,4 @@
--- What the one ground says of an offer (document 02, n).
+-- What the one ground says of an offer.
 use Rattle.std.specs.Prelude.{◌≡◌}
 use Rattle.answer.specs.Answer.{Said}
 use Rattle.answer.specs.Grounds.{GivenIf}

@@ -1,23 +1,20 @@
--- A queue for the panel (document 02, n): what waits, the turns that were, and what an offer and a turn make of them.
-use Rattle.std.specs.Prelude.{Bool, true, false, cond, not, ◌&&◌, ◌||◌, List, [], ◌∷◌, ◌++◌, ℕ, ◌+◌, length, drop, eqb}
-use Rattle.answer.specs.Answer.{given, decide}
-use Rattle.answer.specs.declared.Answer.{Answer}
-use Rattle.answer.specs.declared.Answer.TheVariants.{Accepted}
+-- A queue for the panel: what waits, the turns that were, and what an offer and a turn make of them.
+use Rattle.std.specs.Prelude.{Bool, true, false, cond, not, ◌&&◌, ◌||◌, List, [], ◌∷◌, ◌++◌, ℕ, ◌+◌, length, drop, eqb, Option, Some, None}
+use Rattle.answer.specs.Answer.{given, decide, Answer, Accepted}
 use Rattle.answer.specs.declared.Ground.TheVariants.{QueueFull}
 use Rattle.answer.specs.declared.Place.TheVariants.{Nothing}
+use Rattle.queue.specs.declared.Job.{Job}
 use Rattle.queue.specs.declared.Kind.{Kind}
 use Rattle.queue.specs.declared.Kind.TheVariants.{Urgent, Ordinary}
-use Rattle.queue.specs.declared.Turn.{Turn}
-use Rattle.queue.specs.declared.Turn.TheVariants.{None, Took}
+use Rattle.queue.specs.declared.Taken.{Taken}
 
--- "Jobs, each a query number and a structure number".
-pub record Job : Type 0 where
-  pub query : ℕ
-  pub structure : ℕ
+-- A turn that takes a job of a kind.
+abbrev pub took : Kind → Job → Option Taken
+took kind job = Some (record { kind = kind; job = job })
 
 -- A past turn: what it took, and whether an ordinary job waited at that turn.
 pub record PastTurn : Type 0 where
-  pub taken : Turn
+  pub taken : Option Taken
   pub ordinary_waited : Bool
 
 -- Jobs "wait as urgent or ordinary", the oldest first; the past turns, the latest first.
@@ -50,10 +47,13 @@ unfoldable pub after_offer : Kind → Job → QueueState → QueueState
 after_offer kind job s = decide (offer_answer s) (with_waiting kind (waiting kind s ++ job ∷ []) s) s
 
 -- A turn that "took" an urgent job, "while an ordinary job waited".
-abbrev pub took_urgent : Turn → Bool
+abbrev pub is_urgent : Kind → Bool
+is_urgent Urgent = true
+is_urgent Ordinary = false
+
+abbrev pub took_urgent : Option Taken → Bool
 took_urgent None = false
-took_urgent (Took Urgent query structure) = true
-took_urgent (Took Ordinary query structure) = false
+took_urgent (Some taken) = is_urgent taken.kind
 
 abbrev pub counts : PastTurn → Bool
 counts t = took_urgent t.taken && t.ordinary_waited
@@ -78,11 +78,11 @@ abbrev pub turn_kind : QueueState → Kind
 turn_kind s = cond (passes_urgent s) Ordinary Urgent
 
 -- "With neither kind waiting the turn answers none".
-unfoldable pub oldest : Kind → List Job → Turn
+abbrev pub oldest : Kind → List Job → Option Taken
 oldest kind [] = None
-oldest kind (job ∷ younger) = Took kind job.query job.structure
+oldest kind (job ∷ younger) = took kind job
 
-unfoldable pub turn_of : QueueState → Turn
+unfoldable pub turn_of : QueueState → Option Taken
 turn_of s = oldest (turn_kind s) (waiting (turn_kind s) s)
 
 -- A turn as a past one.

@@ -1,10 +1,9 @@
--- What a reader believes, in document 02's order.
+-- What a reader believes: the jobs and the rule of turns, lists of calls, the ground, how long a job waits.
 pub mod Jobs
 pub mod Calls
 pub mod Grounds
 pub mod Waits
 pub mod Examples
 -- Which queues the calls hand over, and what each call promises.
-pub mod Rings
 pub mod Handing
 pub mod Runs

@@ -1,157 +1,189 @@
-// A queue for the panel: jobs wait as urgent or ordinary, and each turn takes one.
+//! A queue for the panel: jobs wait as urgent or ordinary, and each turn takes one.
 #![tactic(auto)]
 
-mod lane;
+ghost use Rattle.std.specs.Prelude.{◌≡◌, cond, [], ◌∷◌, ◌++◌, suc, ◌+◌, ◌<◌, drop, length, eqb};
+ghost use Rattle.queue.specs.Jobs.{is_empty, oldest};
+ghost use Rattle.queue.specs.Handing.{HandedOver, FromStart, passes_by_count, Offers, Turns};
 
-ghost use Rattle.std.specs.Prelude.{◌≡◌, cond, [], ◌∷◌, ◌++◌, suc, ◌+◌, ◌≤◌, ◌<◌, eqb};
-ghost use Rattle.queue.specs.Jobs.{waiting_count, passes_urgent};
-ghost use Rattle.queue.specs.Calls.{offer, state_from_start};
-ghost use Rattle.queue.specs.Handing.{HandedOver, FromStart, ByHistory, Offers, Turns};
+use answer::{Ground, Place, Refusal};
+use arrayvec::ArrayVec;
+use std::marker::Model;
 
-use answer::{Answer, Ground, Place, refused};
-use lane::{Lane, PLACES, empty};
+// How many jobs wait together at most.
+const PLACES: usize = 16;
 
-#[derive(Clone, Copy)]
+// After so many turns in a row the urgent jobs are passed over.
+const ROW: usize = 3;
+
+#[derive(Clone, Copy, Debug, PartialEq, Eq, Hash)]
 pub enum Kind {
     Urgent,
     Ordinary,
 }
 
-// What a turn answers: none, or the job that it took.
-#[derive(Clone, Copy)]
-pub enum Turn {
-    None,
-    Took {
-        kind: Kind,
-        query: u16,
-        structure: u16,
-    },
+/// A query number and a structure number.
+#[derive(Clone, Copy, Debug, Default, PartialEq, Eq, Hash)]
+pub struct Job {
+    pub query: u16,
+    pub structure: u16,
 }
 
-// The waiting jobs of both kinds, and how many of the last turns in a row took an urgent job while an ordinary one waited.
-#[derive(Clone, Copy)]
+/// What a turn takes.
+#[derive(Clone, Copy, Debug, PartialEq, Eq, Hash)]
+pub struct Taken {
+    pub kind: Kind,
+    pub job: Job,
+}
+
+/// The waiting jobs of both kinds, and how many of the last turns in a row took an urgent job while an ordinary one waited.
+#[derive(Debug, Drop)]
 pub struct Queue {
-    urgent: Lane,
-    ordinary: Lane,
+    urgent: ArrayVec<Job, PLACES>,
+    ordinary: ArrayVec<Job, PLACES>,
     in_row: usize,
 }
 
-// What an offer answers, and the queue that it hands over.
-#[derive(Clone, Copy)]
+impl Model for Queue {
+    ghost use Rattle.queue.specs.Handing.{QueueView, view_of, FromStart};
+
+    ghost Value = { QueueView };
+
+    ghost view = { λ q. view_of q.urgent.items q.ordinary.items q.in_row };
+
+    ghost invariant = { λ q. FromStart (view_of q.urgent.items q.ordinary.items q.in_row) };
+}
+
+/// What an offer answers, and the queue that it hands over.
+#[derive(Debug, Drop)]
 pub struct Offered {
-    pub answer: Answer,
+    pub answer: Result<(), Refusal>,
     pub queue: Queue,
 }
 
-// What a turn took, and the queue that it hands over.
-#[derive(Clone, Copy)]
+/// What a turn took, and the queue that it hands over.
+#[derive(Debug, Drop)]
 pub struct Turned {
-    pub taken: Turn,
+    pub taken: Option<Taken>,
     pub queue: Queue,
 }
 
-// A queue in which nobody waits.
+// Puts a job behind the others of a lane.
+fn put_behind(lane: &mut ArrayVec<Job, PLACES>, job: Job)
+    requires room { length lane.old.items < 16 }
+    ensures { lane.new.items ≡ lane.old.items ++ job ∷ [] }
+{
+    lane.push(job);
+}
+
+// Takes the oldest job of a lane, whose jobs are of this kind.
+fn take_oldest(lane: &mut ArrayVec<Job, PLACES>, kind: Kind) -> Option<Taken>
+    ensures takes { result ≡ oldest kind lane.old.items }
+    ensures leaves { lane.new.items ≡ drop 1 lane.old.items }
+{
+    let job = lane.pop_at(0)?;
+    Some(Taken { kind, job })
+}
+
+/// A queue in which nobody waits.
+#[tactic(auto, using(crate::proofs::Handovers::at_start, crate::proofs::Handovers::start_handed))]
 pub fn start() -> Queue
     ensures over { HandedOver result [] }
     ensures handed { FromStart result }
 {
     Queue {
-        urgent: empty(),
-        ordinary: empty(),
+        urgent: ArrayVec::new(),
+        ordinary: ArrayVec::new(),
         in_row: 0,
     }
 }
 
-// Whether every place is taken.
-fn is_full(queue: Queue) -> bool
-    requires { FromStart queue }
-    ensures { ByHistory queue (λ calls. result ≡ eqb (waiting_count (state_from_start calls)) 16) }
-{
-    queue.urgent.count + queue.ordinary.count == PLACES
-}
-
-// A queue with one job more.
-fn with_job(queue: Queue, kind: Kind, query: u16, structure: u16) -> Queue
-    requires fact_1 { FromStart queue }
-    requires fact_2 { queue.urgent.count + queue.ordinary.count < 16 }
-    ensures { ByHistory queue (λ calls. HandedOver result (calls ++ offer kind (record { query = query; structure = structure }) ∷ [])) }
-{
-    let urgent = queue.urgent;
-    let ordinary = queue.ordinary;
-    match kind {
-        Kind::Urgent => Queue {
-            urgent: urgent.with_job(query, structure),
-            ordinary,
-            in_row: queue.in_row,
-        },
-        Kind::Ordinary => Queue {
-            urgent,
-            ordinary: ordinary.with_job(query, structure),
-            in_row: queue.in_row,
-        },
-    }
-}
-
-// Whether the next turn passes the urgent jobs over: none waits, or the last three turns all took urgent ones while an ordinary one waited.
-fn passes_urgent(queue: Queue) -> bool
-    ensures { ByHistory queue (λ calls. result ≡ passes_urgent (state_from_start calls)) }
-{
-    if queue.urgent.count == 0 {
-        return true;
-    }
-    queue.in_row == 3
-}
-
-// How many turns are in a row after an urgent job was taken while so many ordinary ones waited.
-fn in_row_after(in_row: usize, ordinary: usize) -> usize
-    requires { in_row ≤ 3 }
-    ensures { result ≡ cond (eqb ordinary 0) 0 (suc in_row) }
-{
-    if ordinary == 0 { 0 } else { in_row + 1 }
-}
-
 impl Queue {
-    // Offers a job, which waits behind the others of its kind. Refused on ground 31, the queue is handed back as it was.
-    pub fn offered(self, kind: Kind, query: u16, structure: u16) -> Offered
-        requires { FromStart self }
-        ensures { Offers self kind (record { query = query; structure = structure }) result }
+    /// Another queue in which the same jobs wait after the same turns.
+    pub fn copied(&self) -> Queue
+        ensures same { result ≡ self.now }
+        ensures handed { FromStart result }
     {
-        if is_full(self) {
-            return Offered {
-                answer: refused(Ground::QueueFull, Place::Nothing),
-                queue: self,
-            };
-        }
-        Offered {
-            answer: Answer::Accepted,
-            queue: with_job(self, kind, query, structure),
+        let mut urgent = ArrayVec::new();
+        let mut ordinary = ArrayVec::new();
+        let _ = urgent.try_extend_from_slice(&self.urgent);
+        let _ = ordinary.try_extend_from_slice(&self.ordinary);
+        Queue {
+            urgent,
+            ordinary,
+            in_row: self.in_row,
         }
     }
 
-    // Takes the next job.
-    pub fn turned(self) -> Turned
-        requires { FromStart self }
-        ensures { Turns self result }
+    // Whether every place is taken.
+    fn is_full(&self) -> bool
+        ensures { result ≡ eqb (length self.now.urgent + length self.now.ordinary) 16 }
     {
-        let urgent = self.urgent;
-        let ordinary = self.ordinary;
-        if passes_urgent(self) {
-            return Turned {
-                taken: ordinary.oldest(Kind::Ordinary),
-                queue: Queue {
-                    urgent,
-                    ordinary: ordinary.without_oldest(),
-                    in_row: 0,
-                },
-            };
+        self.urgent.len() + self.ordinary.len() == PLACES
+    }
+
+    // Whether the next turn passes the urgent jobs over: none waits, or the last three turns all took urgent ones while an ordinary one waited.
+    fn passes_urgent(&self) -> bool
+        ensures { result ≡ passes_by_count self.now }
+    {
+        self.urgent.is_empty() || self.in_row == ROW
+    }
+
+    // How many turns are in a row after one that takes an urgent job.
+    fn row_after_urgent(&self) -> usize
+        ensures { result ≡ cond (is_empty self.now.ordinary) 0 (suc self.now.in_row) }
+    {
+        if self.ordinary.is_empty() {
+            0
+        } else {
+            self.in_row + 1
         }
-        Turned {
-            taken: urgent.oldest(Kind::Urgent),
-            queue: Queue {
-                urgent: urgent.without_oldest(),
-                ordinary,
-                in_row: in_row_after(self.in_row, ordinary.count),
-            },
+    }
+
+    /// Offers a job, which waits behind the others of its kind. Refused on ground 31, the queue stays as it was.
+    #[tactic(auto, using(crate::proofs::Handovers::urgent_more, crate::proofs::Handovers::ordinary_more))]
+    pub fn offer(&mut self, kind: Kind, query: u16, structure: u16) -> Result<(), Refusal>
+        ensures { Offers self.old kind (record { query = query; structure = structure }) result self.new }
+    {
+        if self.is_full() {
+            return Err(Ground::QueueFull.at(Place::Nothing));
         }
+        let job = Job { query, structure };
+        match kind {
+            Kind::Urgent => put_behind(&mut self.urgent, job),
+            Kind::Ordinary => put_behind(&mut self.ordinary, job),
+        }
+        Ok(())
+    }
+
+    /// Takes the job that is due, if any waits.
+    #[tactic(auto, using(crate::proofs::Handovers::ordinary_less, crate::proofs::Handovers::urgent_less))]
+    pub fn take_turn(&mut self) -> Option<Taken>
+        ensures { Turns self.old result self.new }
+    {
+        if self.passes_urgent() {
+            self.in_row = 0;
+            return take_oldest(&mut self.ordinary, Kind::Ordinary);
+        }
+        self.in_row = self.row_after_urgent();
+        take_oldest(&mut self.urgent, Kind::Urgent)
+    }
+
+    /// Offers a job to a queue by value, and hands the next one over.
+    pub fn offered(mut self, kind: Kind, query: u16, structure: u16) -> Offered
+        ensures { Offers self kind (record { query = query; structure = structure }) result.answer result.queue }
+    {
+        let answer = self.offer(kind, query, structure);
+        Offered {
+            answer,
+            queue: self,
+        }
+    }
+
+    /// Takes the job that is due of a queue by value, and hands the next one over.
+    pub fn turned(mut self) -> Turned
+        ensures { Turns self result.taken result.queue }
+    {
+        let taken = self.take_turn();
+        Turned { taken, queue: self }
     }
 }

@@ -1,4 +1,4 @@
-// Random calls of a queue, drawn from several mixtures of offers and turns.
+//! Random calls of a queue, drawn from several mixtures of offers and turns.
 use super::definition::{NONE, ORDINARY, URGENT};
 use test_random::draw;
 use test_words::plain::{less, plus, to_u16};

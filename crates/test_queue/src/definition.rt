@@ -1,5 +1,5 @@
-// What a queue answers, straight by the words of document 02, n: the jobs of each kind wait in a plain list, the oldest first, and every turn
-// that was is kept.
+//! What a queue answers, straight by the words of the rule: the jobs of each kind wait in a plain list, the oldest first, and every turn
+//! that was is kept.
 use test_words::plain::{less, more, plus};
 
 // How many jobs wait together at most.

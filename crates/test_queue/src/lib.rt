@@ -1,4 +1,4 @@
-// The queue for the panel, held to the words of document 02: random lists of calls, and how long each job waits.
+//! The queue for the panel, held to the words of the rule: random lists of calls, and how long each job waits.
 #![tactic(auto)]
 
 pub mod calls;

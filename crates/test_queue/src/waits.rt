@@ -1,4 +1,4 @@
-// How long a job waits (document 02, n), and what is counted of offers and turns.
+//! How long a job waits, and what is counted of offers and turns.
 use super::definition::{Job, NONE, ORDINARY, Taken, URGENT};
 use test_random::tally::{Count, counted, marked, none, with_count};
 use test_words::plain::{fourfold, more, plus};

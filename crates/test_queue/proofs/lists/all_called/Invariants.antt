@@ -1,6 +1,0 @@
--- Each call hands over a queue that the calls handed over.
-use Rattle.queue.specs.Handing.{FromStart}
-use Rattle.test_queue.proofs.lists.all_called.Given as goal
-
-abbrev pub invariant-loop : goal.invariant-loop
-invariant-loop g l = FromStart l.now.queue
