@@ -1,14 +1,10 @@
-// The open areas that a seed's listing has, held to the definition: each fitting pair is in just one box, no other pair is in one, each box
-// is as large as can be, and they stand by rising a; and whether another listing has the same boxes.
+//! The open areas that a seed's listing has, held to the definition: each fitting pair is in just one box, no other pair is in one, each box
+//! is as large as can be, and they stand by rising a; and whether another listing has the same boxes.
 use super::seeds::{List, Trees, fits};
-use test_words::plain::{fourfold, more, part, wide, within};
+use test_words::plain::{fourfold, less, more, part, wide, within};
 
 fn number(boxes: &[u8], at: usize) -> usize {
-    if at < boxes.len() {
-        wide(boxes[at])
-    } else {
-        255
-    }
+    boxes.get(at).map_or(255, |&node| wide(node))
 }
 
 // Whether a node is in the side of a box that stands at a place.
@@ -21,10 +17,8 @@ fn boxes_of(boxes: &[u8], count: usize, i: usize, j: usize) -> usize {
     let mut n = 0;
     for k in 0..count {
         let at = fourfold(k);
-        if in_side(boxes, at, i) {
-            if in_side(boxes, more(more(at)), j) {
-                n = more(n);
-            }
+        if in_side(boxes, at, i) && in_side(boxes, more(more(at)), j) {
+            n = more(n);
         }
     }
     n
@@ -35,44 +29,20 @@ fn once(trees: Trees, seed: List, i: usize, j: usize) -> usize {
 }
 
 fn row_right(trees: Trees, seed: List, boxes: &[u8], count: usize, i: usize) -> bool {
-    for j in 0..12 {
-        if boxes_of(boxes, count, i, j) != once(trees, seed, i, j) {
-            return false;
-        }
-    }
-    true
+    (0..12).all(|j| boxes_of(boxes, count, i, j) == once(trees, seed, i, j))
 }
 
 fn rows_right(trees: Trees, seed: List, boxes: &[u8], count: usize) -> bool {
-    for i in 0..12 {
-        if !row_right(trees, seed, boxes, count, i) {
-            return false;
-        }
-    }
-    true
+    (0..12).all(|i| row_right(trees, seed, boxes, count, i))
 }
 
 // Whether all pairs of node i of Q with the nodes c to d of T fit.
 fn row_fits(trees: Trees, seed: List, i: usize, c: usize, d: usize) -> bool {
-    for j in c..16 {
-        if j <= d {
-            if !fits(trees, seed, i, j) {
-                return false;
-            }
-        }
-    }
-    true
+    (c..16).all(|j| d < j || fits(trees, seed, i, j))
 }
 
 fn column_fits(trees: Trees, seed: List, a: usize, b: usize, j: usize) -> bool {
-    for i in a..16 {
-        if i <= b {
-            if !fits(trees, seed, i, j) {
-                return false;
-            }
-        }
-    }
-    true
+    (a..16).all(|i| b < i || fits(trees, seed, i, j))
 }
 
 // The node before, and one in no tree before the first.
@@ -86,35 +56,19 @@ fn grows(trees: Trees, seed: List, boxes: &[u8], at: usize) -> bool {
     let b = number(boxes, more(at));
     let c = number(boxes, more(more(at)));
     let d = number(boxes, more(more(more(at))));
-    if row_fits(trees, seed, before(a), c, d) {
-        return true;
-    }
-    if row_fits(trees, seed, more(b), c, d) {
-        return true;
-    }
-    if column_fits(trees, seed, a, b, before(c)) {
-        return true;
-    }
-    column_fits(trees, seed, a, b, more(d))
+    row_fits(trees, seed, before(a), c, d)
+        || row_fits(trees, seed, more(b), c, d)
+        || column_fits(trees, seed, a, b, before(c))
+        || column_fits(trees, seed, a, b, more(d))
 }
 
 fn all_largest(trees: Trees, seed: List, boxes: &[u8], count: usize) -> bool {
-    for k in 0..count {
-        if grows(trees, seed, boxes, fourfold(k)) {
-            return false;
-        }
-    }
-    true
+    (0..count).all(|k| !grows(trees, seed, boxes, fourfold(k)))
 }
 
-// Whether boxes stand by rising a.
+/// Whether boxes stand by rising a.
 pub fn rises(boxes: &[u8], count: usize) -> bool {
-    for k in 1..count {
-        if number(boxes, fourfold(k)) <= number(boxes, fourfold(k - 1)) {
-            return false;
-        }
-    }
-    true
+    (1..count).all(|k| number(boxes, fourfold(less(k))) < number(boxes, fourfold(k)))
 }
 
 // The box at a place of a list.
@@ -124,31 +78,17 @@ fn box_at(boxes: &[u8], k: usize) -> &[u8] {
 
 // Whether a list has a box.
 fn has_box(boxes: &[u8], count: usize, wanted: &[u8]) -> bool {
-    for k in 0..count {
-        if check::same(box_at(boxes, k), wanted) {
-            return true;
-        }
-    }
-    false
+    (0..count).any(|k| box_at(boxes, k) == wanted)
 }
 
-// Whether each of so many boxes is in another list that is as long.
+/// Whether each of so many boxes is in another list that is as long.
 pub fn same_boxes(boxes: &[u8], count: usize, others: &[u8]) -> bool {
-    for k in 0..count {
-        if !has_box(others, count, box_at(boxes, k)) {
-            return false;
-        }
-    }
-    boxes.len() == others.len()
+    boxes.len() == others.len() && (0..count).all(|k| has_box(others, count, box_at(boxes, k)))
 }
 
-// Whether these are the open areas of a seed, all of them.
+/// Whether these are the open areas of a seed, all of them.
 pub fn areas_right(trees: Trees, seed: List, boxes: &[u8], count: usize) -> bool {
-    if !rises(boxes, count) {
-        return false;
-    }
-    if !rows_right(trees, seed, boxes, count) {
-        return false;
-    }
-    all_largest(trees, seed, boxes, count)
+    rises(boxes, count)
+        && rows_right(trees, seed, boxes, count)
+        && all_largest(trees, seed, boxes, count)
 }

@@ -1,5 +1,5 @@
-// The brute force: what texts, seeds, chains, open areas and stretches must be, straight by the definitions of document 01, and the areas' order of
-// work, by document 004's Algorithm 3, on small inputs.
+//! The brute force: what texts, seeds, chains, open areas and stretches must be, straight by the definitions, and the areas' order of work, by the
+//! paper's Algorithm 3, on small inputs.
 #![tactic(auto)]
 
 pub mod areas;

@@ -1,4 +1,4 @@
-// Lists of at most four pairs, with one pair more and with one less.
+//! Lists of at most four pairs, with one pair more and with one less.
 use super::seeds::{Column, List};
 use test_words::plain::{less, small};
 
@@ -18,21 +18,17 @@ fn without_last_node(c: Column) -> Column {
     next
 }
 
-// The list with a pair more, up to four, and without its last pair.
+/// The list with a pair more, up to four, and without its last pair.
 pub fn with_pair(l: List, i: usize, j: usize) -> List {
-    let q = l.q;
-    let t = l.t;
     List {
-        q: with_node(q, i),
-        t: with_node(t, j),
+        q: with_node(l.q, i),
+        t: with_node(l.t, j),
     }
 }
 
 pub fn without_last(l: List) -> List {
-    let q = l.q;
-    let t = l.t;
     List {
-        q: without_last_node(q),
-        t: without_last_node(t),
+        q: without_last_node(l.q),
+        t: without_last_node(l.t),
     }
 }

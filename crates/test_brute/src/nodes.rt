@@ -1,16 +1,16 @@
-// A tree by the parent and the kind of each of its nodes, read from a text of at most 12 bytes, without the library.
+//! A tree by the parent and the kind of each of its nodes, read from a text of at most 12 bytes, without the library.
 use super::texts::{closes, opens};
 use test_words::plain::{more, small};
 
-// The kinds of nodes (document 02, c).
+// The kinds of nodes.
 const UNPAIRED_BASE: u8 = 0;
 
 const BASE_PAIR: u8 = 1;
 
 const ADDED_ROOT: u8 = 2;
 
-// The nodes in postfix order, with the added root last. A node that no node has taken as a child has the parent 255, and a number that is no
-// node has the kind 255.
+/// The nodes in postfix order, with the added root last. A node that no node has taken as a child has the parent 255, and a number that is no
+/// node has the kind 255.
 #[derive(Clone, Copy)]
 pub struct Nodes {
     pub n: usize,
@@ -30,7 +30,7 @@ fn with_parent(t: Nodes, i: usize, p: usize) -> Nodes {
     next
 }
 
-// Which kind node i is of: unpaired base, base pair or added root.
+/// Which kind node i is of: unpaired base, base pair or added root.
 pub fn kind(t: Nodes, i: usize) -> u8 {
     if i < 16 { t.kind[i] } else { 255 }
 }
@@ -48,17 +48,15 @@ fn with_node(t: Nodes, from: usize) -> Nodes {
     let mut next = t;
     let n = t.n;
     for i in from..16 {
-        if i < n {
-            if parent(next, i) == 255 {
-                next = with_parent(next, i, n);
-            }
+        if i < n && parent(next, i) == 255 {
+            next = with_parent(next, i, n);
         }
     }
     next.n = more(n);
     next
 }
 
-// How far a text is read: its nodes, which node each byte belongs to, and for each open bracket its byte and the nodes before it.
+/// How far a text is read: its nodes, which node each byte belongs to, and for each open bracket its byte and the nodes before it.
 #[derive(Clone, Copy)]
 pub struct Reader {
     pub nodes: Nodes,
@@ -115,10 +113,7 @@ fn unpaired(r: Reader, k: usize) -> Reader {
 
 fn closed(r: Reader, k: usize) -> Reader {
     let d = r.depth;
-    if d < 1 {
-        return r;
-    }
-    if 16 < d {
+    if d < 1 || 16 < d {
         return r;
     }
     let nodes = r.nodes;
@@ -145,23 +140,21 @@ fn with_root(nodes: Nodes) -> Nodes {
     with_kind(with_node(nodes, 0), nodes.n, ADDED_ROOT)
 }
 
-// Reads a text that is known to be a structure.
+/// Reads a text that is known to be a structure.
 pub fn reading(text: &[u8]) -> Reader {
     let mut r = start();
-    for k in 0..text.len() {
-        r = stepped(r, k, text[k]);
+    for (k, &byte) in text.iter().enumerate() {
+        r = stepped(r, k, byte);
     }
-    let nodes = r.nodes;
-    r.nodes = with_root(nodes);
+    r.nodes = with_root(r.nodes);
     r
 }
 
 pub fn nodes_of(text: &[u8]) -> Nodes {
-    let r = reading(text);
-    r.nodes
+    reading(text).nodes
 }
 
-// Whether node i is a proper ancestor of node j: a walk from j up comes to i.
+/// Whether node i is a proper ancestor of node j: a walk from j up comes to i.
 pub fn ancestor(t: Nodes, i: usize, j: usize) -> bool {
     let mut k = j;
     for _ in 0usize..16 {
@@ -173,27 +166,17 @@ pub fn ancestor(t: Nodes, i: usize, j: usize) -> bool {
     false
 }
 
-// Whether node i has no child.
+/// Whether node i has no child.
 pub fn leaf(t: Nodes, i: usize) -> bool {
-    for j in 0..16 {
-        if parent(t, j) == i {
-            return false;
-        }
-    }
-    true
+    (0..16).all(|j| parent(t, j) != i)
 }
 
-// The smallest number in the subtree of node i.
+/// The smallest number in the subtree of node i.
 pub fn leftmost(t: Nodes, i: usize) -> usize {
-    for j in 0..16 {
-        if ancestor(t, i, j) {
-            return j;
-        }
-    }
-    i
+    (0..16).find(|&j| ancestor(t, i, j)).unwrap_or(i)
 }
 
-// A set of nodes.
+/// A set of nodes.
 #[derive(Clone, Copy)]
 pub struct Set {
     pub has: [bool; 16],
@@ -204,7 +187,7 @@ pub fn none() -> Set {
 }
 
 pub fn has(s: Set, i: usize) -> bool {
-    if i < 16 { s.has[i] } else { false }
+    i < 16 && s.has[i]
 }
 
 pub fn with(s: Set, i: usize) -> Set {
@@ -215,14 +198,7 @@ pub fn with(s: Set, i: usize) -> Set {
     next
 }
 
-// Whether every child of node i is in the set.
+/// Whether every child of node i is in the set.
 pub fn children_in(t: Nodes, s: Set, i: usize) -> bool {
-    for j in 0..16 {
-        if parent(t, j) == i {
-            if !has(s, j) {
-                return false;
-            }
-        }
-    }
-    true
+    (0..16).all(|j| parent(t, j) != i || has(s, j))
 }

@@ -1,6 +1,6 @@
-// The open areas of a seed in the paper's order of work: Algorithm 3 of document 004 over all pairs of the seed, whether on a border or not, with its
-// last push read as the pair just treated (document 02, e). Lines are the algorithm's; those of the leftmost area, 22 to 24, stand behind the loop of
-// the middle ones. An area goes from its first nodes up to those before its end, which spares numbers below 0.
+//! The open areas of a seed in the paper's order of work: its Algorithm 3 over all pairs of the seed, whether on a border or not, with its last push
+//! read as the pair just treated. Lines are the algorithm's; those of the leftmost area, 22 to 24, stand behind the loop of
+//! the middle ones. An area goes from its first nodes up to those before its end, which spares numbers below 0.
 use super::lists::{with_pair, without_last};
 use super::nodes::{Nodes, ancestor, leaf, leftmost};
 use super::seeds::{List, Trees, last, no_pairs, node};
@@ -8,29 +8,15 @@ use test_words::plain::{fourfold, less, more, part, small};
 
 // The rightmost leaf of node i: the last leaf in its subtree.
 fn rightmost(t: Nodes, i: usize) -> usize {
-    let mut last = i;
-    for j in 0..16 {
-        if ancestor(t, i, j) {
-            if leaf(t, j) {
-                last = j;
-            }
-        }
-    }
-    last
+    let found = (0..16).rev().find(|&j| ancestor(t, i, j) && leaf(t, j));
+    found.unwrap_or(i)
 }
 
 // The rightmost root of node i, which the paper calls u: of the nodes with its rightmost leaf the one with the highest number.
 fn rightmost_root(t: Nodes, i: usize) -> usize {
     let end = rightmost(t, i);
-    let mut root = i;
-    for k in 0..16 {
-        if k < t.n {
-            if rightmost(t, k) == end {
-                root = k;
-            }
-        }
-    }
-    root
+    let found = (0..16).rev().find(|&k| k < t.n && rightmost(t, k) == end);
+    found.unwrap_or(i)
 }
 
 // A node of Q and one of T.
@@ -41,31 +27,25 @@ struct Pair {
 }
 
 fn pair_at(list: List, k: usize) -> Pair {
-    let q = list.q;
-    let t = list.t;
     Pair {
-        q: node(q, k),
-        t: node(t, k),
+        q: node(list.q, k),
+        t: node(list.t, k),
     }
 }
 
 // The leftmost leaves of a pair of nodes.
 fn first_leaves(trees: Trees, p: Pair) -> Pair {
-    let tq = trees.q;
-    let tt = trees.t;
     Pair {
-        q: leftmost(tq, p.q),
-        t: leftmost(tt, p.t),
+        q: leftmost(trees.q, p.q),
+        t: leftmost(trees.t, p.t),
     }
 }
 
 // The nodes behind its rightmost roots.
 fn behind_roots(trees: Trees, p: Pair) -> Pair {
-    let tq = trees.q;
-    let tt = trees.t;
     Pair {
-        q: more(rightmost_root(tq, p.q)),
-        t: more(rightmost_root(tt, p.t)),
+        q: more(rightmost_root(trees.q, p.q)),
+        t: more(rightmost_root(trees.t, p.t)),
     }
 }
 
@@ -91,10 +71,7 @@ fn with_side(f: Found, at: usize, from: usize, end: usize) -> Found {
 
 // One area more, if it is not empty.
 fn with_area(f: Found, from: Pair, end: Pair) -> Found {
-    if end.q <= from.q {
-        return f;
-    }
-    if end.t <= from.t {
+    if end.q <= from.q || end.t <= from.t {
         return f;
     }
     let at = fourfold(f.count);
@@ -113,38 +90,28 @@ struct Work {
 }
 
 fn top(w: Work) -> Pair {
-    let stack = w.stack;
-    let q = stack.q;
-    let t = stack.t;
     Pair {
-        q: last(q),
-        t: last(t),
+        q: last(w.stack.q),
+        t: last(w.stack.t),
     }
 }
 
 fn with_found(w: Work, from: Pair, end: Pair) -> Work {
-    let found = w.found;
     let mut next = w;
-    next.found = with_area(found, from, end);
+    next.found = with_area(w.found, from, end);
     next
 }
 
 fn popped(w: Work) -> Work {
-    let stack = w.stack;
     let mut next = w;
     next.taken = top(w);
-    next.stack = without_last(stack);
+    next.stack = without_last(w.stack);
     next
 }
 
 // Line 16: whether a pair is on the stack and its q is at least low.
 fn goes_on(w: Work, low: usize) -> bool {
-    let stack = w.stack;
-    let q = stack.q;
-    if q.count == 0 {
-        return false;
-    }
-    low <= last(q)
+    0 < w.stack.q.count && low <= last(w.stack.q)
 }
 
 // Lines 16 to 21: the middle areas, each between the pair taken last and the one on top.
@@ -154,13 +121,8 @@ fn with_middle(trees: Trees, w: Work, low: usize) -> Work {
         if !goes_on(next, low) {
             return next;
         }
-        let taken = next.taken;
-        let between = with_found(
-            next,
-            behind_roots(trees, top(next)),
-            first_leaves(trees, taken),
-        );
-        next = popped(between);
+        let from = behind_roots(trees, top(next));
+        next = popped(with_found(next, from, first_leaves(trees, next.taken)));
     }
     next
 }
@@ -170,18 +132,12 @@ fn with_gaps(trees: Trees, w: Work, b: Pair) -> Work {
     let low = first_leaves(trees, b);
     let right = popped(with_found(w, behind_roots(trees, top(w)), b));
     let middle = with_middle(trees, right, low.q);
-    let taken = middle.taken;
-    with_found(middle, low, first_leaves(trees, taken))
+    with_found(middle, low, first_leaves(trees, middle.taken))
 }
 
 // Line 5: whether no pair is under the one at a place.
 fn is_lowest(trees: Trees, seed: List, i: usize) -> bool {
-    let tq = trees.q;
-    let q = seed.q;
-    if i == 0 {
-        return true;
-    }
-    node(q, i - 1) < leftmost(tq, node(q, i))
+    i == 0 || node(seed.q, i - 1) < leftmost(trees.q, node(seed.q, i))
 }
 
 // Lines 5 to 24: the areas under the pair at a place.
@@ -195,9 +151,8 @@ fn with_areas(trees: Trees, seed: List, w: Work, i: usize) -> Work {
 
 // Lines 25 and 26. The last pair is pushed too, and nobody looks at it.
 fn pushed(w: Work, b: Pair) -> Work {
-    let stack = w.stack;
     let mut next = w;
-    next.stack = with_pair(stack, b.q, b.t);
+    next.stack = with_pair(w.stack, b.q, b.t);
     next
 }
 
@@ -214,24 +169,15 @@ fn start() -> Work {
 
 // Lines 4 to 26: all the work, pair by pair.
 fn worked(trees: Trees, seed: List) -> Work {
-    let q = seed.q;
     let mut w = start();
-    for i in 0..4 {
-        if i < q.count {
-            w = pushed(with_areas(trees, seed, w, i), pair_at(seed, i));
-        }
+    for i in 0..seed.q.count {
+        w = pushed(with_areas(trees, seed, w, i), pair_at(seed, i));
     }
     w
 }
 
-fn are(bytes: [u8; 64], n: usize, boxes: &[u8]) -> bool {
-    check::same(part(&bytes, 0, n), boxes)
-}
-
-// Whether these boxes are those that the work finds, in the order in which it finds them.
+/// Whether these boxes are those that the work finds, in the order in which it finds them.
 pub fn in_order_of_work(trees: Trees, seed: List, boxes: &[u8]) -> bool {
-    let w = worked(trees, seed);
-    let found = w.found;
-    let bytes = found.boxes;
-    are(bytes, fourfold(found.count), boxes)
+    let found = worked(trees, seed).found;
+    part(&found.boxes, 0, fourfold(found.count)) == boxes
 }

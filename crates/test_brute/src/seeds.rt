@@ -1,7 +1,8 @@
-// Seeds, chains and open areas of small trees, straight by the definitions of document 01 and, of like nodes, of document 02, c.
+//! Seeds, chains and open areas of small trees, straight by the definitions.
 use super::nodes::{Nodes, Set, ancestor, children_in, has, kind, leaf, none, parent, with};
+use test_words::plain::{less, part, wide};
 
-// The q of a list of at most four pairs, or its t.
+/// The q of a list of at most four pairs, or its t.
 #[derive(Clone, Copy)]
 pub struct Column {
     pub count: usize,
@@ -12,16 +13,17 @@ pub fn node(c: Column, k: usize) -> usize {
     if k < 4 { c.node[k] as usize } else { 255 }
 }
 
-// The last node of a column, and 255 if it has none.
-pub fn last(c: Column) -> usize {
-    if 0 < c.count {
-        node(c, c.count - 1)
-    } else {
-        255
-    }
+// The nodes of a column.
+fn nodes(c: &Column) -> &[u8] {
+    part(&c.node, 0, c.count)
 }
 
-// The list of pairs that two columns are.
+/// The last node of a column, and 255 if it has none.
+pub fn last(c: Column) -> usize {
+    nodes(&c).last().map_or(255, |&i| wide(i))
+}
+
+/// The list of pairs that two columns are.
 #[derive(Clone, Copy)]
 pub struct List {
     pub q: Column,
@@ -41,7 +43,7 @@ pub fn no_pairs() -> List {
     }
 }
 
-// The two trees.
+/// The two trees.
 #[derive(Clone, Copy)]
 pub struct Trees {
     pub q: Nodes,
@@ -49,101 +51,39 @@ pub struct Trees {
 }
 
 fn all_nodes(t: Nodes, c: Column) -> bool {
-    for k in 0..4 {
-        if k < c.count {
-            if t.n <= node(c, k) {
-                return false;
-            }
-        }
-    }
-    true
+    nodes(&c).iter().all(|&i| wide(i) < t.n)
 }
 
 // Whether each pair joins two unpaired bases, two base pairs or the two added roots.
 fn like_to_like(trees: Trees, list: List) -> bool {
-    let tq = trees.q;
-    let tt = trees.t;
-    let q = list.q;
-    let t = list.t;
-    for k in 0..4 {
-        if k < q.count {
-            if kind(tq, node(q, k)) != kind(tt, node(t, k)) {
-                return false;
-            }
-        }
-    }
-    true
+    (0..list.q.count).all(|k| kind(trees.q, node(list.q, k)) == kind(trees.t, node(list.t, k)))
 }
 
 fn rises(c: Column) -> bool {
-    for k in 1..4 {
-        if k < c.count {
-            if node(c, k) <= node(c, k - 1) {
-                return false;
-            }
-        }
-    }
-    true
-}
-
-pub fn equal(a: bool, b: bool) -> bool {
-    if a { b } else { !b }
+    (1..c.count).all(|k| node(c, less(k)) < node(c, k))
 }
 
 // Whether two pairs are a mapping: equal, smaller and ancestor in Q exactly if in T.
 fn agree(trees: Trees, q: usize, t: usize, p: usize, u: usize) -> bool {
-    let tq = trees.q;
-    let tt = trees.t;
-    if !equal(q == p, t == u) {
-        return false;
-    }
-    if !equal(q < p, t < u) {
-        return false;
-    }
-    if !equal(ancestor(tq, q, p), ancestor(tt, t, u)) {
-        return false;
-    }
-    equal(ancestor(tq, p, q), ancestor(tt, u, t))
+    (q == p) == (t == u)
+        && (q < p) == (t < u)
+        && ancestor(trees.q, q, p) == ancestor(trees.t, t, u)
+        && ancestor(trees.q, p, q) == ancestor(trees.t, u, t)
 }
 
 // Whether a pair agrees with each pair of a list.
 fn agree_all(trees: Trees, list: List, p: usize, u: usize) -> bool {
-    let q = list.q;
-    let t = list.t;
-    for k in 0..4 {
-        if k < q.count {
-            if !agree(trees, node(q, k), node(t, k), p, u) {
-                return false;
-            }
-        }
-    }
-    true
+    (0..list.q.count).all(|k| agree(trees, node(list.q, k), node(list.t, k), p, u))
 }
 
 // Whether any pair of one list agrees with any pair of another.
 fn mapping(trees: Trees, a: List, b: List) -> bool {
-    let q = b.q;
-    let t = b.t;
-    for k in 0..4 {
-        if k < q.count {
-            if !agree_all(trees, a, node(q, k), node(t, k)) {
-                return false;
-            }
-        }
-    }
-    true
+    (0..b.q.count).all(|k| agree_all(trees, a, node(b.q, k), node(b.t, k)))
 }
 
 // Whether the last node is an ancestor of all others.
 fn rooted(t: Nodes, c: Column) -> bool {
-    for k in 0..4 {
-        if k + 1 < c.count {
-            if !ancestor(t, last(c), node(c, k)) {
-                return false;
-            }
-        }
-    }
-    true
+    (0..less(c.count)).all(|k| ancestor(t, last(c), node(c, k)))
 }
 
 // The set with the nodes on the path from one node up to another.
@@ -163,126 +103,66 @@ fn with_path(t: Nodes, s: Set, from: usize, to: usize) -> Set {
 // The span: all nodes of the column and those on the paths from them up to the last.
 fn span(t: Nodes, c: Column) -> Set {
     let mut set = none();
-    for k in 0..4 {
-        if k < c.count {
-            set = with_path(t, set, node(c, k), last(c));
-        }
+    for &i in nodes(&c) {
+        set = with_path(t, set, wide(i), last(c));
     }
     set
 }
 
 fn listed(c: Column, i: usize) -> bool {
-    for k in 0..4 {
-        if k < c.count {
-            if node(c, k) == i {
-                return true;
-            }
-        }
-    }
-    false
+    nodes(&c).iter().any(|&node| wide(node) == i)
 }
 
 // Whether a node is on the border of a span: it is a leaf or has a child outside.
 fn on_border(t: Nodes, s: Set, i: usize) -> bool {
-    if !has(s, i) {
-        return false;
-    }
-    if leaf(t, i) {
-        return true;
-    }
-    !children_in(t, s, i)
+    has(s, i) && (leaf(t, i) || !children_in(t, s, i))
 }
 
 // Whether every border node of the span is in the column.
 fn bordered(t: Nodes, c: Column) -> bool {
     let s = span(t, c);
-    for i in 0..16 {
-        if on_border(t, s, i) {
-            if !listed(c, i) {
-                return false;
-            }
-        }
-    }
-    true
+    (0..16).all(|i| !on_border(t, s, i) || listed(c, i))
 }
 
-// Whether both hold.
-pub fn both(a: bool, b: bool) -> bool {
-    if a { b } else { false }
-}
-
-// The first of the grounds 15, 25 and 16 to 19 that holds of a list, and 0 if it is a seed.
+/// The first of the grounds 15, 25 and 16 to 19 that holds of a list, and 0 if it is a seed.
 pub fn judge(trees: Trees, list: List) -> usize {
-    let tq = trees.q;
-    let tt = trees.t;
-    let q = list.q;
-    let t = list.t;
-    if !both(all_nodes(tq, q), all_nodes(tt, t)) {
+    if !(all_nodes(trees.q, list.q) && all_nodes(trees.t, list.t)) {
         return 15;
     }
     if !like_to_like(trees, list) {
         return 25;
     }
-    if !both(rises(q), rises(t)) {
+    if !(rises(list.q) && rises(list.t)) {
         return 16;
     }
     if !mapping(trees, list, list) {
         return 17;
     }
-    if !both(rooted(tq, q), rooted(tt, t)) {
+    if !(rooted(trees.q, list.q) && rooted(trees.t, list.t)) {
         return 18;
     }
-    if !both(bordered(tq, q), bordered(tt, t)) {
+    if !(bordered(trees.q, list.q) && bordered(trees.t, list.t)) {
         return 19;
     }
     0
 }
 
 fn apart(a: Set, b: Set) -> bool {
-    for i in 0..16 {
-        if has(a, i) {
-            if has(b, i) {
-                return false;
-            }
-        }
-    }
-    true
+    (0..16).all(|i| !(has(a, i) && has(b, i)))
 }
 
-// Whether two seeds are chainable: their spans share no node, and their pairs together are a mapping.
+/// Whether two seeds are chainable: their spans share no node, and their pairs together are a mapping.
 pub fn chainable(trees: Trees, a: List, b: List) -> bool {
-    let tq = trees.q;
-    let tt = trees.t;
-    let a_q = a.q;
-    let b_q = b.q;
-    if !apart(span(tq, a_q), span(tq, b_q)) {
-        return false;
-    }
-    let a_t = a.t;
-    let b_t = b.t;
-    if !apart(span(tt, a_t), span(tt, b_t)) {
-        return false;
-    }
-    mapping(trees, a, b)
+    apart(span(trees.q, a.q), span(trees.q, b.q))
+        && apart(span(trees.t, a.t), span(trees.t, b.t))
+        && mapping(trees, a, b)
 }
 
-// Whether the nodes i and j fit a seed: properly below its last pair, outside its spans, and a mapping with it.
+/// Whether the nodes i and j fit a seed: properly below its last pair, outside its spans, and a mapping with it.
 pub fn fits(trees: Trees, seed: List, i: usize, j: usize) -> bool {
-    let tq = trees.q;
-    let tt = trees.t;
-    let q = seed.q;
-    let t = seed.t;
-    if !ancestor(tq, last(q), i) {
-        return false;
-    }
-    if !ancestor(tt, last(t), j) {
-        return false;
-    }
-    if has(span(tq, q), i) {
-        return false;
-    }
-    if has(span(tt, t), j) {
-        return false;
-    }
-    agree_all(trees, seed, i, j)
+    ancestor(trees.q, last(seed.q), i)
+        && ancestor(trees.t, last(seed.t), j)
+        && !has(span(trees.q, seed.q), i)
+        && !has(span(trees.t, seed.t), j)
+        && agree_all(trees, seed, i, j)
 }

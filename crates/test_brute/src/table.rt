@@ -1,8 +1,8 @@
-// A plain table of the seeds of a random case, and the best chain by trying every set of them.
+//! A plain table of the seeds of a random case, and the best chain by trying every set of them.
 use super::seeds::{List, Trees, chainable, no_pairs};
-use test_words::plain::{more, small};
+use test_words::plain::{more, plus, small};
 
-// At most eight seeds, counted from 0. A score is kept as points: 5 more than it is. Which two seeds are chainable is kept in both orders.
+/// At most eight seeds, counted from 0. A score is kept as points: 5 more than it is. Which two seeds are chainable is kept in both orders.
 #[derive(Clone, Copy)]
 pub struct Table {
     pub count: usize,
@@ -35,7 +35,7 @@ fn with_list(t: Table, i: usize, list: List) -> Table {
 }
 
 pub fn is_present(t: Table, i: usize) -> bool {
-    if i < 8 { t.present[i] } else { false }
+    i < 8 && t.present[i]
 }
 
 pub fn with_presence(t: Table, i: usize, to: bool) -> Table {
@@ -60,32 +60,23 @@ pub fn with_points(t: Table, i: usize, points: usize) -> Table {
 
 fn join(t: Table, i: usize, j: usize) -> Table {
     let mut next = t;
-    if i < 8 {
-        if j < 8 {
-            next.joined[8 * i + j] = true;
-            next.joined[8 * j + i] = true;
-        }
+    if i < 8 && j < 8 {
+        next.joined[8 * i + j] = true;
+        next.joined[8 * j + i] = true;
     }
     next
 }
 
 fn are_joined(t: Table, i: usize, j: usize) -> bool {
-    if i < 8 {
-        if j < 8 {
-            return t.joined[8 * i + j];
-        }
-    }
-    false
+    i < 8 && j < 8 && t.joined[8 * i + j]
 }
 
 // The last seed is joined with each before it with which it is chainable.
 fn with_joins(t: Table, trees: Trees, i: usize) -> Table {
     let mut next = t;
-    for j in 0..8 {
-        if j < i {
-            if chainable(trees, seed(next, j), seed(next, i)) {
-                next = join(next, j, i);
-            }
+    for j in 0..i {
+        if chainable(trees, seed(next, j), seed(next, i)) {
+            next = join(next, j, i);
         }
     }
     next
@@ -102,40 +93,18 @@ pub fn with_seed(t: Table, trees: Trees, list: List, points: usize) -> Table {
     )
 }
 
-// Whether a set of seeds, a number in binary, has seed i.
+/// Whether a set of seeds, a number in binary, has seed i.
 pub fn has(set: usize, i: usize) -> bool {
-    if i < 8 {
-        return (set >> i) % 2 == 1;
-    }
-    false
+    i < 8 && (set >> i) % 2 == 1
 }
 
 // Whether seed i is present and chainable with each seed of a set that stands before it.
 fn stands(t: Table, set: usize, i: usize) -> bool {
-    if !is_present(t, i) {
-        return false;
-    }
-    for j in 0..8 {
-        if j < i {
-            if has(set, j) {
-                if !are_joined(t, j, i) {
-                    return false;
-                }
-            }
-        }
-    }
-    true
+    is_present(t, i) && (0..i).all(|j| !has(set, j) || are_joined(t, j, i))
 }
 
 fn is_chain(t: Table, set: usize) -> bool {
-    for i in 0..8 {
-        if has(set, i) {
-            if !stands(t, set, i) {
-                return false;
-            }
-        }
-    }
-    true
+    (0..8).all(|i| !has(set, i) || stands(t, set, i))
 }
 
 // The total of a set and 1000, so that it is never below 0.
@@ -143,26 +112,13 @@ fn worth(t: Table, set: usize) -> usize {
     let mut sum = 1000;
     for i in 0..8 {
         if has(set, i) {
-            sum = moved(sum, points(t, i));
+            sum = plus(sum, points(t, i)).saturating_sub(5);
         }
     }
     sum
 }
 
-fn moved(sum: usize, points: usize) -> usize {
-    if sum < 5 {
-        return sum;
-    }
-    if 100000 < sum {
-        return sum;
-    }
-    if 1000 < points {
-        return sum;
-    }
-    sum + points - 5
-}
-
-// A chain, its worth, and how many chains are worth as much.
+/// A chain, its worth, and how many chains are worth as much.
 #[derive(Clone, Copy)]
 pub struct Choice {
     pub set: usize,
@@ -203,7 +159,7 @@ fn better(best: Choice, set: usize, worth: usize) -> Choice {
     next
 }
 
-// The best of all chains.
+/// The best of all chains.
 pub fn best(t: Table) -> Choice {
     let mut choice = Choice {
         set: 0,

@@ -1,7 +1,7 @@
-// Grounds 1 to 4 and 24 of a text of any bytes (document 02, b).
-use test_words::plain::{byte_at, find, less, more};
+//! Grounds 1 to 4 and 24 of a text of any bytes.
+use test_words::plain::{byte_at, find, less, more, rest};
 
-// A ground and its byte.
+/// A ground and its byte.
 #[derive(Clone, Copy)]
 pub struct Verdict {
     pub ground: usize,
@@ -15,12 +15,12 @@ fn rank(byte: u8) -> usize {
 
 pub fn opens(byte: u8) -> bool {
     let k = rank(byte);
-    if k < 8 { k % 2 == 0 } else { false }
+    k < 8 && k % 2 == 0
 }
 
 pub fn closes(byte: u8) -> bool {
     let k = rank(byte);
-    if k < 8 { k % 2 == 1 } else { false }
+    k < 8 && k % 2 == 1
 }
 
 // Which of the four kinds a bracket is of.
@@ -28,7 +28,7 @@ fn kind(byte: u8) -> usize {
     rank(byte) / 2
 }
 
-// How many brackets are open behind a byte: a closing one that closes nothing changes nothing.
+/// How many brackets are open behind a byte: a closing one that closes nothing changes nothing.
 pub fn deeper(depth: usize, byte: u8) -> usize {
     if opens(byte) {
         return more(depth);
@@ -39,51 +39,35 @@ pub fn deeper(depth: usize, byte: u8) -> usize {
     depth
 }
 
-fn first_refused(s: &[u8]) -> usize {
-    for k in 0..s.len() {
-        if 13 < rank(s[k]) {
-            return k;
-        }
-    }
-    s.len()
+fn first_refused(s: &[u8]) -> Option<usize> {
+    s.iter().position(|&byte| 13 < rank(byte))
 }
 
-fn first_closing_nothing(s: &[u8]) -> usize {
+fn first_closing_nothing(s: &[u8]) -> Option<usize> {
     let mut depth = 0;
-    for k in 0..s.len() {
-        if closes(s[k]) {
-            if depth == 0 {
-                return k;
-            }
+    for (k, &byte) in s.iter().enumerate() {
+        if closes(byte) && depth == 0 {
+            return Some(k);
         }
-        depth = deeper(depth, s[k]);
+        depth = deeper(depth, byte);
     }
-    s.len()
+    None
 }
 
 // Whether the opening bracket at a byte is closed later: the brackets behind it come back to as many as before it.
 fn is_closed(s: &[u8], at: usize) -> bool {
     let mut depth = 1;
-    for k in at..s.len() {
-        if at < k {
-            depth = deeper(depth, s[k]);
-            if depth == 0 {
-                return true;
-            }
+    for &byte in rest(s, more(at)) {
+        depth = deeper(depth, byte);
+        if depth == 0 {
+            return true;
         }
     }
     false
 }
 
-fn first_never_closed(s: &[u8]) -> usize {
-    for k in 0..s.len() {
-        if opens(s[k]) {
-            if !is_closed(s, k) {
-                return k;
-            }
-        }
-    }
-    s.len()
+fn first_never_closed(s: &[u8]) -> Option<usize> {
+    (0..s.len()).find(|&k| opens(byte_at(s, k)) && !is_closed(s, k))
 }
 
 // How many closing brackets are still to be opened before a byte, going backwards.
@@ -97,8 +81,8 @@ fn deeper_before(depth: usize, byte: u8) -> usize {
     depth
 }
 
-// The byte of the bracket that the closing one at a byte closes: there, going backwards, none is left to be opened. Its own byte if it closes
-// nothing.
+/// The byte of the bracket that the closing one at a byte closes: there, going backwards, none is left to be opened. Its own byte if it closes
+/// nothing.
 pub fn partner(s: &[u8], at: usize) -> usize {
     let mut depth = 1;
     for j in 0..at {
@@ -111,50 +95,25 @@ pub fn partner(s: &[u8], at: usize) -> usize {
     at
 }
 
-fn first_of_another_kind(s: &[u8]) -> usize {
-    for k in 0..s.len() {
-        if closes(s[k]) {
-            if kind(byte_at(s, partner(s, k))) != kind(s[k]) {
-                return k;
-            }
-        }
-    }
-    s.len()
+fn first_of_another_kind(s: &[u8]) -> Option<usize> {
+    (0..s.len()).find(|&k| {
+        closes(byte_at(s, k)) && kind(byte_at(s, partner(s, k))) != kind(byte_at(s, k))
+    })
 }
 
-// The first of grounds 1 to 4 and 24 that holds of a text.
-pub fn judge(s: &[u8]) -> Verdict {
-    let n = s.len();
-    if 255 < n {
-        return Verdict { ground: 1, at: 0 };
+/// The first of grounds 1 to 4 and 24 that holds of a text, if any.
+pub fn judge(s: &[u8]) -> Option<Verdict> {
+    if 255 < s.len() {
+        return Some(Verdict { ground: 1, at: 0 });
     }
-    let refused = first_refused(s);
-    if refused < n {
-        return Verdict {
-            ground: 2,
-            at: refused,
-        };
+    if let Some(at) = first_refused(s) {
+        return Some(Verdict { ground: 2, at });
     }
-    let closing = first_closing_nothing(s);
-    if closing < n {
-        return Verdict {
-            ground: 3,
-            at: closing,
-        };
+    if let Some(at) = first_closing_nothing(s) {
+        return Some(Verdict { ground: 3, at });
     }
-    let never = first_never_closed(s);
-    if never < n {
-        return Verdict {
-            ground: 4,
-            at: never,
-        };
+    if let Some(at) = first_never_closed(s) {
+        return Some(Verdict { ground: 4, at });
     }
-    let another = first_of_another_kind(s);
-    if another < n {
-        return Verdict {
-            ground: 24,
-            at: another,
-        };
-    }
-    Verdict { ground: 0, at: 0 }
+    first_of_another_kind(s).map(|at| Verdict { ground: 24, at })
 }

@@ -1,71 +1,50 @@
-// The README's example of a queue: it quotes what stands between the two marks word for word.
+//! The README's example of a queue: it quotes what stands between the two marks word for word.
 use super::queues::with_turn;
-use answer::Answer;
+use answer::Refusal;
 use test_words::answers::with_answer;
 use test_words::{Text, blank, with_bytes};
 
 // README: begin
-use queue::{Kind, Turn};
+use queue::{Kind, Taken};
 
-// What is answered on the way.
+/// What is answered on the way.
 #[derive(Clone, Copy)]
 pub struct Served {
-    pub offer: Answer,
-    pub third: Turn,
-    pub fourth: Turn,
-    pub fifth: Turn,
-    pub sixth: Turn,
+    pub offer: Result<(), Refusal>,
+    pub third: Option<Taken>,
+    pub fourth: Option<Taken>,
+    pub fifth: Option<Taken>,
+    pub sixth: Option<Taken>,
 }
 
-// Five jobs, each a query number and a structure number, and six turns.
+/// Five jobs, each a query number and a structure number, and six turns.
 pub fn example() -> Served {
-    let offered = queue::start().offered(Kind::Ordinary, 7, 300);
-    let offer = offered.answer;
-    let queue = offered.queue;
-    let queue = queue.offered(Kind::Urgent, 1, 301).queue;
-    let queue = queue.offered(Kind::Urgent, 2, 301).queue;
-    let queue = queue.offered(Kind::Urgent, 3, 301).queue;
-    let queue = queue.offered(Kind::Urgent, 4, 301).queue;
+    let mut queue = queue::start();
+    let offer = queue.offer(Kind::Ordinary, 7, 300);
+    for query in 1..5 {
+        let _ = queue.offer(Kind::Urgent, query, 301);
+    }
     // Three turns take urgent jobs, each while the ordinary one waits: so the fourth takes that one.
-    let queue = queue.turned().queue;
-    let queue = queue.turned().queue;
-    let turned = queue.turned();
-    let third = turned.taken;
-    let turned = turned.queue.turned();
-    let fourth = turned.taken;
-    let turned = turned.queue.turned();
-    let fifth = turned.taken;
-    // Nobody waits any more.
-    let turned = turned.queue.turned();
-    let sixth = turned.taken;
+    queue.take_turn();
+    queue.take_turn();
     Served {
         offer,
-        third,
-        fourth,
-        fifth,
-        sixth,
+        third: queue.take_turn(),
+        fourth: queue.take_turn(),
+        fifth: queue.take_turn(),
+        // Nobody waits any more.
+        sixth: queue.take_turn(),
     }
 }
 // README: end
 
-fn comma(t: Text) -> Text {
-    with_bytes(t, b", ")
-}
-
-// The answers in words.
-fn told(e: Served) -> Text {
-    let offer = e.offer;
-    let third = e.third;
-    let fourth = e.fourth;
-    let fifth = e.fifth;
-    let sixth = e.sixth;
-    let offered = comma(with_answer(blank(), offer));
-    let row = comma(with_turn(offered, third));
-    let passed = comma(with_turn(row, fourth));
-    with_turn(comma(with_turn(passed, fifth)), sixth)
-}
-
-// panel
+/// The answers in words.
 pub fn run() -> Text {
-    told(example())
+    let served = example();
+    let turns = [served.third, served.fourth, served.fifth, served.sixth];
+    let mut text = with_answer(blank(), served.offer);
+    for taken in turns {
+        text = with_turn(with_bytes(text, b", "), taken);
+    }
+    text
 }

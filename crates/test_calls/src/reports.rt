@@ -1,32 +1,24 @@
-// The report of an input, as a script names it. The input is lines and then a deck's bytes.
+//! The report of an input, as a script names it. The input is lines and then a deck's bytes.
 use super::views::{LONGEST, all_words, remarked};
-use answer::Answer;
+use answer::Refusal;
 use best::SCRATCH;
-use report::Reported;
-use test_words::answers::with_answer;
+use lines::Lines;
+use test_words::answers::with_refusal;
 use test_words::line::{next, number, number_or, structure};
 use test_words::plain::{all_are, part};
 use test_words::spelled::{put_hex, put_lines};
 use test_words::{Text, begins, blank, with_bytes, with_lines};
 
-fn with_refusal(t: Text, answer: Answer) -> Text {
-    match answer {
-        Answer::Accepted => t,
-        _ => with_answer(t, answer),
+// The lines, or the refusal.
+fn with_report(t: Text, reported: Result<Lines, Refusal>) -> Text {
+    match reported {
+        Ok(lines) => remarked(
+            with_lines(t, part(&lines.bytes, 0, lines.length)),
+            all_are(&lines.bytes, lines.length, 0),
+            b", more than the lines",
+        ),
+        Err(refusal) => with_refusal(t, refusal),
     }
-}
-
-// The refusal, and the lines, which are none beside it.
-fn with_report(t: Text, reported: Reported) -> Text {
-    let answer = reported.answer;
-    let lines = reported.lines;
-    let bytes = lines.bytes;
-    let said = with_lines(with_refusal(t, answer), part(&bytes, 0, lines.length));
-    remarked(
-        said,
-        all_are(&bytes, lines.length, 0),
-        b", more than the lines",
-    )
 }
 
 // The value that a report leaves in a scratch of sevens: the best chain is worked out for the line that begins with "score" alone.
@@ -35,7 +27,7 @@ fn left_by(t: Text) -> u64 {
 }
 
 fn with_left(t: Text, scratch: &[u64]) -> Text {
-    let left = all_words(scratch, 0, left_by(t));
+    let left = all_words(scratch, left_by(t));
     remarked(t, left, b", scratch not left so")
 }
 
@@ -49,7 +41,7 @@ fn put_input(s: &[u8], at: usize, input: &mut [u8]) -> usize {
     put_hex(s, next(s, at), input, lines)
 }
 
-// report LINES DECK [SCRATCH]
+/// report LINES DECK [SCRATCH]
 pub fn report(s: &[u8], at: usize) -> Text {
     let mut input = [0u8; 8192];
     let mut scratch = [7u64; LONGEST];
@@ -62,7 +54,7 @@ pub fn report(s: &[u8], at: usize) -> Text {
 }
 
 fn with_written(t: Text, lines: &[u8]) -> Text {
-    if lines.len() == 0 {
+    if lines.is_empty() {
         return with_bytes(t, b"nothing");
     }
     with_lines(t, lines)
@@ -75,7 +67,7 @@ fn exported_on(input: &[u8], scratch: &mut [u64], out: &mut [u8]) -> Text {
     remarked(text, kept, b", more than the lines touched")
 }
 
-// exported LINES DECK SCRATCH ROOM: the form for C and Rust.
+/// exported LINES DECK SCRATCH ROOM: the form for C and Rust.
 pub fn exported(s: &[u8], at: usize) -> Text {
     let mut input = [0u8; 8192];
     let mut scratch = [7u64; LONGEST];

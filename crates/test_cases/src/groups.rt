@@ -1,4 +1,4 @@
-// The groups of random cases, all texts of a length, and all scores.
+//! The groups of random cases, all texts of a length, and all scores.
 use test_nudges::moves::print_moves;
 use test_nudges::nudges;
 use test_queue::lists::lists;
@@ -66,34 +66,24 @@ fn random_queue(rt: &impl Print, cases: usize, seed: usize) -> Text {
     wrong(count)
 }
 
-// random GROUP CASES SEED
+/// random GROUP CASES SEED
 pub fn random(rt: &impl Print, s: &[u8], at: usize) -> Text {
     let cases = next(s, at);
     let seed = next(s, cases);
-    if check::same(word(s, at), b"texts") {
-        return random_texts(rt, number(s, cases), number(s, seed));
+    match word(s, at) {
+        b"texts" => random_texts(rt, number(s, cases), number(s, seed)),
+        b"stretches" => random_stretches(rt, number(s, cases), number(s, seed)),
+        b"nudges" => random_nudges(rt, number(s, cases), number(s, seed)),
+        b"scores" => random_scores(rt, number(s, cases), number(s, seed)),
+        b"numbers" => random_numbers(rt, number(s, cases), number(s, seed)),
+        b"queue" => random_queue(rt, number(s, cases), number(s, seed)),
+        _ => random_sessions(rt, number(s, cases), number(s, seed)),
     }
-    if check::same(word(s, at), b"stretches") {
-        return random_stretches(rt, number(s, cases), number(s, seed));
-    }
-    if check::same(word(s, at), b"nudges") {
-        return random_nudges(rt, number(s, cases), number(s, seed));
-    }
-    if check::same(word(s, at), b"scores") {
-        return random_scores(rt, number(s, cases), number(s, seed));
-    }
-    if check::same(word(s, at), b"numbers") {
-        return random_numbers(rt, number(s, cases), number(s, seed));
-    }
-    if check::same(word(s, at), b"queue") {
-        return random_queue(rt, number(s, cases), number(s, seed));
-    }
-    random_sessions(rt, number(s, cases), number(s, seed))
 }
 
-// every LENGTH: all texts of one byte, or of two. every score: all scores, written and read back.
+/// every LENGTH: all texts of one byte, or of two. every score: all scores, written and read back.
 pub fn every(rt: &impl Print, s: &[u8], at: usize) -> Text {
-    if check::same(word(s, at), b"score") {
+    if matches!(word(s, at), b"score") {
         return with_counts(blank(), all_scores(rt));
     }
     if number(s, at) == 1 {

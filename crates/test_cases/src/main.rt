@@ -1,4 +1,4 @@
-// The test program: runs the cases of its input on the library, and says of each whether all its calls answered as they must.
+//! The test program: runs the cases of its input on the library, and says of each whether all its calls answered as they must.
 #![tactic(auto)]
 
 mod groups;

@@ -1,5 +1,4 @@
-// The words that name the calls.
-ghost use Rattle.chain.specs.View.{Sound};
+//! The words that name the calls.
 
 use super::groups::{every, random};
 use chain::Session;
@@ -12,159 +11,68 @@ use test_words::{Text, blank, with_bytes};
 // A call on a score text or a number.
 fn on_score(s: &[u8], at: usize) -> Text {
     let args = next(s, at);
-    if check::same(word(s, at), b"score") {
-        return scores::score(s, args);
+    match word(s, at) {
+        b"score" => scores::score(s, args),
+        b"score-hex" => scores::score_hex(s, args),
+        b"text" => scores::text(s, args),
+        _ => with_bytes(blank(), b"no such call"),
     }
-    if check::same(word(s, at), b"score-hex") {
-        return scores::score_hex(s, args);
-    }
-    if check::same(word(s, at), b"text") {
-        return scores::text(s, args);
-    }
-    with_bytes(blank(), b"no such call")
 }
 
 // A call that takes no session.
 fn without_session(rt: &impl Print, s: &[u8], at: usize) -> Text {
     let args = next(s, at);
-    if check::same(word(s, at), b"stretch") {
-        return views::stretch(s, args);
+    match word(s, at) {
+        b"stretch" => views::stretch(s, args),
+        b"read" => views::read(s, args),
+        b"report" => report(s, args),
+        b"exported" => exported(s, args),
+        b"random" => random(rt, s, args),
+        b"every" => every(rt, s, args),
+        b"example" => example::run(),
+        b"panel" => panel::run(),
+        _ => on_score(s, at),
     }
-    if check::same(word(s, at), b"read") {
-        return views::read(s, args);
-    }
-    if check::same(word(s, at), b"report") {
-        return report(s, args);
-    }
-    if check::same(word(s, at), b"exported") {
-        return exported(s, args);
-    }
-    if check::same(word(s, at), b"random") {
-        return random(rt, s, args);
-    }
-    if check::same(word(s, at), b"every") {
-        return every(rt, s, args);
-    }
-    if check::same(word(s, at), b"example") {
-        return example::run();
-    }
-    if check::same(word(s, at), b"panel") {
-        return panel::run();
-    }
-    on_score(s, at)
-}
-
-// Whether the call lists areas, in one order or the other.
-fn lists(s: &[u8], at: usize) -> bool {
-    if check::same(word(s, at), b"areas") {
-        return true;
-    }
-    check::same(word(s, at), b"areas-paper")
-}
-
-fn listing(session: Session, s: &[u8], at: usize) -> Text
-    requires { Sound session }
-{
-    let paper = check::same(word(s, at), b"areas-paper");
-    views::areas(session, s, next(s, at), paper)
 }
 
 // A call that changes no session. The session's two texts stand at a place of their own.
-fn looking(rt: &impl Print, session: Session, s: &[u8], at: usize, texts: usize) -> Text
-    requires { Sound session }
-{
+fn looking(rt: &impl Print, session: Session, s: &[u8], at: usize, texts: usize) -> Text {
     let args = next(s, at);
-    if check::same(word(s, at), b"best") {
-        return views::best(session, s, args);
+    match word(s, at) {
+        b"best" => views::best(session, s, args),
+        b"areas" => views::areas(session, s, args, false),
+        b"areas-paper" => views::areas(session, s, args, true),
+        b"deck" => views::deck(session, s, args),
+        b"row" => views::row(session, s, args),
+        b"redeal" => views::redeal(session, s, texts),
+        _ => without_session(rt, s, at),
     }
-    if lists(s, at) {
-        return listing(session, s, at);
-    }
-    if check::same(word(s, at), b"deck") {
-        return views::deck(session, s, args);
-    }
-    if check::same(word(s, at), b"row") {
-        return views::row(session, s, args);
-    }
-    if check::same(word(s, at), b"redeal") {
-        return views::redeal(session, s, texts);
-    }
-    without_session(rt, s, at)
 }
 
-// Whether the call hands over a session of its own.
+/// Whether the call hands over a session of its own.
 pub fn opens(s: &[u8], at: usize) -> bool {
-    if check::same(word(s, at), b"open") {
-        return true;
-    }
-    check::same(word(s, at), b"deal")
+    matches!(word(s, at), b"open" | b"deal")
 }
 
-fn opening(s: &[u8], at: usize) -> Done
-    ensures { Sound result.session }
-{
-    if check::same(word(s, at), b"open") {
-        return open(s, next(s, at));
-    }
-    deal(s, next(s, at))
-}
-
-// Whether the call is one on lent memory.
-fn lends(s: &[u8], at: usize) -> bool {
-    if check::same(word(s, at), b"add-lent") {
-        return true;
-    }
-    check::same(word(s, at), b"rescore-lent")
-}
-
-fn lending(session: Session, s: &[u8], at: usize) -> Done
-    requires { Sound session }
-    ensures { Sound result.session }
-{
-    if check::same(word(s, at), b"add-lent") {
-        return add_lent(session, s, next(s, at));
-    }
-    rescore_lent(session, s, next(s, at))
-}
-
-// A call on a session by value, whether it changes the session or not.
-fn by_value(rt: &impl Print, session: Session, s: &[u8], at: usize, texts: usize) -> Done
-    requires { Sound session }
-    ensures { Sound result.session }
-{
+fn call(rt: &impl Print, session: Session, s: &[u8], at: usize, texts: usize) -> Done {
     let args = next(s, at);
-    if check::same(word(s, at), b"add") {
-        return add(session, s, args);
-    }
-    if check::same(word(s, at), b"withdraw") {
-        return move_to(session, s, args, false);
-    }
-    if check::same(word(s, at), b"back") {
-        return move_to(session, s, args, true);
-    }
-    if check::same(word(s, at), b"rescore") {
-        return rescore(session, s, args);
-    }
-    Done {
-        session,
-        text: looking(rt, session, s, at, texts),
+    match word(s, at) {
+        b"open" => open(s, args),
+        b"deal" => deal(s, args),
+        b"add" => add(session, s, args),
+        b"add-lent" => add_lent(session, s, args),
+        b"withdraw" => move_to(session, s, args, false),
+        b"back" => move_to(session, s, args, true),
+        b"rescore" => rescore(session, s, args),
+        b"rescore-lent" => rescore_lent(session, s, args),
+        _ => Done {
+            session,
+            text: looking(rt, session, s, at, texts),
+        },
     }
 }
 
-fn call(rt: &impl Print, session: Session, s: &[u8], at: usize, texts: usize) -> Done
-    requires { Sound session }
-    ensures { Sound result.session }
-{
-    if opens(s, at) {
-        return opening(s, at);
-    }
-    if lends(s, at) {
-        return lending(session, s, at);
-    }
-    by_value(rt, session, s, at, texts)
-}
-
-// The call so many times, and at least once: what the last one answers.
+/// The call so many times, and at least once: what the last one answers.
 pub fn called(
     rt: &impl Print,
     session: Session,
@@ -172,10 +80,7 @@ pub fn called(
     at: usize,
     texts: usize,
     times: usize,
-) -> Done
-    requires { Sound session }
-    ensures { Sound result.session }
-{
+) -> Done {
     let mut done = call(rt, session, s, at, texts);
     for _ in 1..times {
         let later = done.session;

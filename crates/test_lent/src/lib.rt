@@ -1,8 +1,9 @@
-// For the tests: the two calls on lent memory by value, each of which lends to them.
+//! For the tests: the two calls on lent memory by value, each of which lends to them.
 #![tactic(auto)]
 
-ghost use Rattle.std.specs.Prelude.{◌≡◌, min};
-ghost use Rattle.chain.specs.Acts.{add, rescore, number_given};
+ghost use Rattle.std.specs.Prelude.{◌≡◌, ◌+◌, length, min, IfOk};
+ghost use Rattle.answer.specs.Refusal.{answer_in};
+ghost use Rattle.chain.specs.Acts.{add, rescore};
 ghost use Rattle.chain.specs.View.{view, Sound, Does};
 ghost use Rattle.test_lent.specs.Lending.{pairs_on};
 
@@ -10,7 +11,7 @@ use chain::{Added, Changed, Session};
 use lent::{add, rescore};
 use seed::Pair;
 
-// The first `count` of these pairs, and all if there are not so many.
+/// The first `count` of these pairs, and all if there are not so many.
 #[derive(Clone, Copy)]
 pub struct PairList {
     pub count: usize,
@@ -21,27 +22,22 @@ pub struct PairList {
 fn lent_count(count: usize) -> usize
     ensures { result ≡ min count 1025 }
 {
-    if count < 1025 {
-        return count;
-    }
-    1025
+    count.min(1025)
 }
 
-// Adds the seed of a list by value, whose pairs are lent.
+/// Adds the seed of a list by value, whose pairs are lent.
 pub fn add_from(session: Session, list: PairList, score: i32) -> Added
-    requires { Sound session }
-    ensures does { Does session (add (pairs_on list) score) result.answer result.session }
-    ensures number { result.number ≡ number_given (view session) result.answer }
+    ensures does { Does session (add (pairs_on list) score) (answer_in result.answer) result.session }
+    ensures number { IfOk result.answer (λ number. number ≡ length (view session).rows + 1) }
 {
     let count = lent_count(list.count);
     let pairs = list.pairs;
     add(session, &pairs[..count], score)
 }
 
-// Rescores in a session by value, which is lent and handed back.
+/// Rescores in a session by value, which is lent and handed back.
 pub fn rescore_by_reference(session: Session, number: usize, score: i32) -> Changed
-    requires { Sound session }
-    ensures { Does session (rescore number score) result.answer result.session }
+    ensures { Does session (rescore number score) (answer_in result.answer) result.session }
 {
     let mut held = session;
     let answer = rescore(&mut held, number, score);

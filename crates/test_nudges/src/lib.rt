@@ -1,11 +1,9 @@
-// Random nudges on two small trees: eight lists are added, then scores raised and lowered and seeds withdrawn and brought back, and the best
-// total before and after each is held to how far it can move (document 02, m).
+//! Random nudges on two small trees: eight lists are added, then scores raised and lowered and seeds withdrawn and brought back, and the best
+//! total before and after each is held to how far it can move.
 #![tactic(auto)]
 
 pub mod moves;
 mod nudge;
-
-ghost use Rattle.chain.specs.View.{Sound};
 
 use best::SCRATCH;
 use chain::Session;
@@ -17,12 +15,12 @@ use test_brute::nodes::nodes_of;
 use test_brute::seeds::Trees;
 use test_random::draw;
 use test_random::lists::list;
-use test_random::samples::{Sample, structure};
+use test_random::samples::{Sample, bytes_of, structure};
 use test_random::tally::print_if_wrong;
 use test_sessions::other;
-use test_sessions::play::added;
+use test_sessions::play::{added, opened};
 use test_words::answers::ground_of;
-use test_words::plain::{more, part, plus};
+use test_words::plain::{more, plus};
 
 // A session, how many seeds it has, their lifted scores by number, and what is counted.
 #[derive(Clone, Copy)]
@@ -33,22 +31,19 @@ struct Play {
     moves: Moves,
 }
 
-fn total_of(session: Session) -> usize
-    requires { Sound session }
-{
+fn total_of(session: Session) -> usize {
     let mut scratch = [7u64; SCRATCH];
-    let best = session.best_chain(&mut scratch);
-    best.total as usize
+    match session.best_chain(&mut scratch) {
+        Ok(best) => best.total as usize,
+        Err(_) => 0,
+    }
 }
 
-fn lifted_of(p: Play, number: usize) -> usize {
-    if number < 10 { p.lifted[number] } else { 0 }
+fn lifted_at(lifted: [usize; 10], number: usize) -> usize {
+    if number < 10 { lifted[number] } else { 0 }
 }
 
-fn with_lifted(p: Play, number: usize, lifted: usize) -> Play
-    requires { Sound p.session }
-    ensures { Sound result.session }
-{
+fn with_lifted(p: Play, number: usize, lifted: usize) -> Play {
     let mut next = p;
     if number < 10 {
         next.lifted[number] = lifted;
@@ -56,40 +51,33 @@ fn with_lifted(p: Play, number: usize, lifted: usize) -> Play
     next
 }
 
-fn with_session(p: Play, session: Session) -> Play
-    requires { Sound session }
-    ensures { Sound result.session }
-{
+fn with_moves(p: Play, moves: Moves) -> Play {
+    let mut next = p;
+    next.moves = moves;
+    next
+}
+
+fn with_session(p: Play, session: Session) -> Play {
     let mut next = p;
     next.session = session;
     next
 }
 
 // One random list is added with a score from −5 to 5; one that is no seed gets number 0.
-fn add(p: Play, trees: Trees, state: &mut u64) -> Play
-    requires { Sound p.session }
-    ensures { Sound result.session }
-{
+fn add(p: Play, trees: Trees, state: &mut u64) -> Play {
     let session = p.session;
     let l = list(state, trees);
-    let q = l.q;
-    let t = l.t;
-    let qs = q.node;
-    let ts = t.node;
     let lifted = plus(LIFT - 5, draw(state, 11));
-    let r = added(session, qs, ts, q.count, score_of(lifted));
-    let later = r.session;
-    let mut next = with_lifted(with_session(p, later), r.number, lifted);
-    if 0 < r.number {
-        next.seeds = r.number;
+    let r = added(session, l, score_of(lifted));
+    let number = r.answer.unwrap_or(0);
+    let mut next = with_lifted(with_session(p, r.session), number, lifted);
+    if 0 < number {
+        next.seeds = number;
     }
     next
 }
 
-fn adds(p: Play, trees: Trees, state: &mut u64) -> Play
-    requires { Sound p.session }
-    ensures { Sound result.session }
-{
+fn adds(p: Play, trees: Trees, state: &mut u64) -> Play {
     let mut next = p;
     for _ in 0usize..8 {
         next = add(next, trees, state);
@@ -98,20 +86,15 @@ fn adds(p: Play, trees: Trees, state: &mut u64) -> Play
 }
 
 // A call that moves no seed and no score stands between, or none: a number that is never given out, or a score out of range.
-fn between(session: Session, number: usize, state: &mut u64) -> Session
-    requires { Sound session }
-    ensures { Sound result }
-{
+fn between(session: Session, number: usize, state: &mut u64) -> Session {
     let way = draw(state, 3);
     if way == 0 {
         return session;
     }
     if way == 1 {
-        let r = session.withdrawn(65);
-        return r.session;
+        return session.withdrawn(65).session;
     }
-    let r = session.rescored(number, 1000001);
-    r.session
+    session.rescored(number, 1000001).session
 }
 
 // A random nudge: by nothing, by a little, and by so much that the score may be out of range.
@@ -119,17 +102,12 @@ fn drawn(state: &mut u64) -> Nudge {
     let steps = [0, 1, 2, 3, 4, 7, 100, 999997];
     // The remainder once more, since no bound is promised of what is drawn.
     let by = steps[draw(state, 8) % 8];
-    let way = draw(state, 6);
-    if way < 2 {
-        return Nudge::Raise(by);
+    match draw(state, 6) {
+        0 | 1 => Nudge::Raise(by),
+        2 | 3 => Nudge::Lower(by),
+        4 => Nudge::Withdraw,
+        _ => Nudge::BringBack,
     }
-    if way < 4 {
-        return Nudge::Lower(by);
-    }
-    if way < 5 {
-        return Nudge::Withdraw;
-    }
-    Nudge::BringBack
 }
 
 // What a nudge answered and left, and the total after it.
@@ -140,28 +118,22 @@ struct Made {
     to: usize,
 }
 
-fn asked(session: Session, number: usize, lifted: usize, nudge: Nudge, state: &mut u64) -> Made
-    requires { Sound session }
-    ensures { Sound result.session }
-{
+fn asked(session: Session, number: usize, lifted: usize, nudge: Nudge, state: &mut u64) -> Made {
     let before = between(session, number, state);
     let r = called(before, number, lifted, nudge);
-    let answer = r.answer;
-    let after = r.session;
-    let later = between(after, number, state);
+    let later = between(r.session, number, state);
     Made {
         session: later,
-        ground: ground_of(answer),
+        ground: ground_of(r.answer),
         to: total_of(later),
     }
 }
 
-fn is_present(session: Session, number: usize) -> bool
-    requires { Sound session }
-{
-    let shown = session.row(number);
-    let row = shown.row;
-    row.present
+fn is_present(session: Session, number: usize) -> bool {
+    match session.row(number) {
+        Ok(row) => row.present,
+        Err(_) => false,
+    }
 }
 
 // How far a nudge may move the total: one that is refused not at all.
@@ -189,10 +161,7 @@ fn move_of(
     }
 }
 
-fn with_made(p: Play, number: usize, lifted: usize, made: Made) -> Play
-    requires { Sound made.session }
-    ensures { Sound result.session }
-{
+fn with_made(p: Play, number: usize, lifted: usize, made: Made) -> Play {
     let session = made.session;
     let next = with_session(p, session);
     if made.ground != 0 {
@@ -202,41 +171,21 @@ fn with_made(p: Play, number: usize, lifted: usize, made: Made) -> Play
 }
 
 // One random nudge of a seed, or of a number that is not given out.
-fn nudged(rt: &impl Print, p: Play, state: &mut u64) -> Play
-    requires { Sound p.session }
-    ensures { Sound result.session }
-{
+fn nudged(rt: &impl Print, p: Play, state: &mut u64) -> Play {
     let session = p.session;
-    let moves = p.moves;
     let number = draw(state, more(more(p.seeds)));
     let nudge = drawn(state);
-    let lifted = lifted_of(p, number);
+    let lifted = lifted_at(p.lifted, number);
     let present = is_present(session, number);
     let made = asked(session, number, lifted, nudge, state);
-    let m = move_of(
-        total_of(session),
-        made.to,
-        nudge,
-        present,
-        lifted,
-        made.ground,
-    );
-    let mut next = with_made(p, number, lifted_after(lifted, nudge), made);
-    next.moves = with_move(
-        rt,
-        moves,
-        m,
-        way_of(nudge),
-        is_below_zero(lifted),
-        made.ground,
-    );
-    next
+    let ground = made.ground;
+    let m = move_of(total_of(session), made.to, nudge, present, lifted, ground);
+    let moves = with_move(rt, p.moves, m, way_of(nudge), is_below_zero(lifted), ground);
+    let next = with_made(p, number, lifted_after(lifted, nudge), made);
+    with_moves(next, moves)
 }
 
-fn all_nudged(rt: &impl Print, p: Play, state: &mut u64) -> Play
-    requires { Sound p.session }
-    ensures { Sound result.session }
-{
+fn all_nudged(rt: &impl Print, p: Play, state: &mut u64) -> Play {
     let mut next = p;
     for _ in 0usize..16 {
         next = nudged(rt, next, state);
@@ -249,38 +198,19 @@ fn on_texts(rt: &impl Print, q: &[u8], t: &[u8], state: &mut u64, moves: Moves) 
         q: nodes_of(q),
         t: nodes_of(t),
     };
-    let opened = chain::open(q, t);
-    let session = opened.session;
     let start = Play {
-        session,
+        session: opened(q, t),
         seeds: 0,
         lifted: [0; 10],
         moves,
     };
-    let p = all_nudged(rt, adds(start, trees, state), state);
-    p.moves
-}
-
-fn on_bytes(
-    rt: &impl Print,
-    q: [u8; 12],
-    n: usize,
-    t: [u8; 12],
-    m: usize,
-    state: &mut u64,
-    moves: Moves,
-) -> Moves {
-    on_texts(rt, part(&q, 0, n), part(&t, 0, m), state, moves)
+    all_nudged(rt, adds(start, trees, state), state).moves
 }
 
 // One random session: its two texts are printed if a total in it is wrong.
 fn one(rt: &impl Print, q: Sample, t: Sample, state: &mut u64, moves: Moves) -> Moves {
-    let before = moves.count;
-    let q_bytes = q.bytes;
-    let t_bytes = t.bytes;
-    let next = on_bytes(rt, q_bytes, q.len, t_bytes, t.len, state, moves);
-    let after = next.count;
-    print_if_wrong(rt, before, after, q, t);
+    let next = on_texts(rt, bytes_of(&q), bytes_of(&t), state, moves);
+    print_if_wrong(rt, moves.count, next.count, q, t);
     next
 }
 

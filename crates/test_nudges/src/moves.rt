@@ -1,10 +1,10 @@
-// What nudges do to the best total, and what is counted of it.
+//! What nudges do to the best total, and what is counted of it.
 use test_random::tally::{Count, counted, marked, none, with_count};
 use test_words::plain::{more, plus};
 use test_words::{blank, print, with_bytes};
 
-// The calls of nudges, and of those accepted how many moved the total as far as it may move and how many left it where it might have moved,
-// each for scores raised and lowered and for seeds withdrawn and brought back; and how many were of a score below 0.
+/// The calls of nudges, and of those accepted how many moved the total as far as it may move and how many left it where it might have moved,
+/// each for scores raised and lowered and for seeds withdrawn and brought back; and how many were of a score below 0.
 #[derive(Clone, Copy)]
 pub struct Moves {
     pub count: Count,
@@ -22,7 +22,7 @@ pub fn no_moves() -> Moves {
     }
 }
 
-// The total before a nudge and after it, and how far it may rise and fall.
+/// The total before a nudge and after it, and how far it may rise and fall.
 #[derive(Clone, Copy)]
 pub struct Move {
     pub from: usize,
@@ -32,27 +32,19 @@ pub struct Move {
 }
 
 fn is_within(m: Move) -> bool {
-    if plus(m.from, m.up) < m.to {
-        return false;
-    }
-    m.from <= plus(m.to, m.down)
+    m.to <= plus(m.from, m.up) && m.from <= plus(m.to, m.down)
 }
 
 fn is_reached(m: Move) -> bool {
-    if m.from == m.to {
-        return false;
-    }
     if m.from < m.to {
-        return m.to == plus(m.from, m.up);
+        m.to == plus(m.from, m.up)
+    } else {
+        m.to < m.from && m.from == plus(m.to, m.down)
     }
-    m.from == plus(m.to, m.down)
 }
 
 fn is_unmoved(m: Move) -> bool {
-    if m.from != m.to {
-        return false;
-    }
-    0 < plus(m.up, m.down)
+    m.from == m.to && 0 < plus(m.up, m.down)
 }
 
 fn one_if(n: usize, one: bool) -> usize {
@@ -69,7 +61,7 @@ fn with_way(counts: [usize; 4], way: usize, one: bool) -> [usize; 4] {
     next
 }
 
-// One nudge more of a way, refused on this ground or, if it is 0, accepted.
+/// One nudge more of a way, refused on this ground or, if it is 0, accepted.
 pub fn with_move(
     rt: &impl Print,
     all: Moves,
@@ -103,7 +95,7 @@ fn print_ways(rt: &impl Print, what: &[u8], counts: [usize; 4]) {
     print(rt, with_count(withdrawn, counts[3], b" brought back\n"));
 }
 
-// Lines with what was counted of the totals.
+/// Lines with what was counted of the totals.
 pub fn print_moves(rt: &impl Print, all: Moves) {
     let reached = all.reached;
     let unmoved = all.unmoved;

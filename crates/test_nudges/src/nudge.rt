@@ -1,14 +1,13 @@
-// A nudge of one seed, and how far the best total may move by it (document 02, m). A score is kept lifted, so that none is below 0.
-ghost use Rattle.chain.specs.View.{Sound};
+//! A nudge of one seed, and how far the best total may move by it. A score is kept lifted, so that none is below 0.
 
 use chain::{Changed, Session};
 use test_words::line::{negative, positive};
 use test_words::plain::plus;
 
-// How much more than the score a lifted score is.
+/// How much more than the score a lifted score is.
 pub const LIFT: usize = 3000000;
 
-// A score raised or lowered by so much, or a seed withdrawn or brought back.
+/// A score raised or lowered by so much, or a seed withdrawn or brought back.
 #[derive(Clone, Copy)]
 pub enum Nudge {
     Raise(usize),
@@ -17,7 +16,7 @@ pub enum Nudge {
     BringBack,
 }
 
-// Which of the four it is.
+/// Which of the four it is.
 pub fn way_of(nudge: Nudge) -> usize {
     match nudge {
         Nudge::Raise(_) => 0,
@@ -38,29 +37,20 @@ pub fn score_of(lifted: usize) -> i32 {
     positive(lifted - LIFT)
 }
 
-fn difference(a: usize, b: usize) -> usize {
-    if a < b { 0 } else { a - b }
-}
-
-// The lifted score of a seed after a nudge.
+/// The lifted score of a seed after a nudge.
 pub fn lifted_after(lifted: usize, nudge: Nudge) -> usize {
     match nudge {
         Nudge::Raise(by) => plus(lifted, by),
-        Nudge::Lower(by) => difference(lifted, by),
-        Nudge::Withdraw => lifted,
-        Nudge::BringBack => lifted,
+        Nudge::Lower(by) => lifted.saturating_sub(by),
+        Nudge::Withdraw | Nudge::BringBack => lifted,
     }
 }
 
-// The call of a nudge on the seed of this number and this lifted score.
-pub fn called(session: Session, number: usize, lifted: usize, nudge: Nudge) -> Changed
-    requires { Sound session }
-    ensures { Sound result.session }
-{
+/// The call of a nudge on the seed of this number and this lifted score.
+pub fn called(session: Session, number: usize, lifted: usize, nudge: Nudge) -> Changed {
     let score = score_of(lifted_after(lifted, nudge));
     match nudge {
-        Nudge::Raise(_) => session.rescored(number, score),
-        Nudge::Lower(_) => session.rescored(number, score),
+        Nudge::Raise(_) | Nudge::Lower(_) => session.rescored(number, score),
         Nudge::Withdraw => session.withdrawn(number),
         Nudge::BringBack => session.brought_back(number),
     }
@@ -68,7 +58,7 @@ pub fn called(session: Session, number: usize, lifted: usize, nudge: Nudge) -> C
 
 // What a score can count for: the greater of it and 0.
 fn worth(lifted: usize) -> usize {
-    difference(lifted, LIFT)
+    lifted.saturating_sub(LIFT)
 }
 
 // Another score of a withdrawn seed leaves the total.
@@ -76,7 +66,7 @@ fn if_present(present: bool, by: usize) -> usize {
     if present { by } else { 0 }
 }
 
-// How far the total may rise by an accepted nudge of a seed that was present or not and had this lifted score.
+/// How far the total may rise by an accepted nudge of a seed that was present or not and had this lifted score.
 pub fn most_up(nudge: Nudge, present: bool, lifted: usize) -> usize {
     match nudge {
         Nudge::Raise(by) => if_present(present, by),
@@ -86,7 +76,7 @@ pub fn most_up(nudge: Nudge, present: bool, lifted: usize) -> usize {
     }
 }
 
-// How far it may fall.
+/// How far it may fall.
 pub fn most_down(nudge: Nudge, present: bool, lifted: usize) -> usize {
     match nudge {
         Nudge::Raise(_) => 0,

@@ -1,23 +1,23 @@
-// The bytes that random texts are made of.
+//! The bytes that random texts are made of.
 use super::draw;
 use test_words::plain::byte_at;
 
-// An unpaired character.
+/// An unpaired character.
 pub fn unpaired(state: &mut u64) -> u8 {
     byte_at(b".,:_-~", draw(state, 6))
 }
 
-// An opening bracket of any kind.
+/// An opening bracket of any kind.
 pub fn opening(state: &mut u64) -> u8 {
     byte_at(b"(<[{", draw(state, 4))
 }
 
-// A closing bracket of any kind.
+/// A closing bracket of any kind.
 pub fn closing(state: &mut u64) -> u8 {
     byte_at(b")>]}", draw(state, 4))
 }
 
-// The closing bracket of an opening one.
+/// The closing bracket of an opening one.
 pub fn closing_of(byte: u8) -> u8 {
     match byte {
         b'(' => b')',
@@ -32,7 +32,7 @@ fn refused(state: &mut u64) -> u8 {
     byte_at(b"Aax'*+/9;=?Z\\^`z|\x7f\r\n", draw(state, 20))
 }
 
-// Any byte of a text: now and then one that is refused.
+/// Any byte of a text: now and then one that is refused.
 pub fn any(state: &mut u64) -> u8 {
     let pick = draw(state, 19);
     if pick < 6 {

@@ -1,4 +1,4 @@
-// A fixed generator of numbers, the random inputs that it draws, and random texts and stretches held to the brute force.
+//! A fixed generator of numbers, the random inputs that it draws, and random texts and stretches held to the brute force.
 #![tactic(auto)]
 
 mod characters;
@@ -8,7 +8,7 @@ pub mod stretches;
 pub mod tally;
 pub mod texts;
 
-// A number below n, or 0 if n is 0: the upper bits of a linear congruence.
+/// A number below n, or 0 if n is 0: the upper bits of a linear congruence.
 pub fn draw(state: &mut u64, n: usize) -> usize {
     let low = *state % 2147483648;
     let next = (low * 1103515245 + 12345) % 2147483648;

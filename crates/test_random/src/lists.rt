@@ -1,18 +1,13 @@
-// Random lists of pairs of two trees, drawn so that most pairs join nodes of one kind.
+//! Random lists of pairs of two trees, drawn so that most pairs join nodes of one kind.
 use super::draw;
 use test_brute::lists::with_pair;
 use test_brute::nodes::{Nodes, kind, parent};
 use test_brute::seeds::{List, Trees, no_pairs};
 use test_words::plain::{less, more, plus};
 
-// The first node from a place on that is of one kind, and 255 if there is none.
-fn first_like(t: Nodes, wanted: u8, from: usize) -> usize {
-    for j in from..16 {
-        if kind(t, j) == wanted {
-            return j;
-        }
-    }
-    255
+// The first node from a place on that is of one kind.
+fn first_like(t: Nodes, wanted: u8, from: usize) -> Option<usize> {
+    (from..16).find(|&j| kind(t, j) == wanted)
 }
 
 // A node of T for node i of Q: the first from j on that is of its kind, or the first of all. Now and then, and if T has none, it is j itself.
@@ -21,19 +16,13 @@ fn like_node(state: &mut u64, q: Nodes, t: Nodes, i: usize, j: usize) -> usize {
         return j;
     }
     let behind = first_like(t, kind(q, i), j);
-    if behind < 255 {
-        return behind;
-    }
-    let first = first_like(t, kind(q, i), 0);
-    if first < 255 { first } else { j }
+    behind.or(first_like(t, kind(q, i), 0)).unwrap_or(j)
 }
 
 // A number for a node of T: half the time that of the node of Q.
 fn number_for(state: &mut u64, i: usize, n: usize) -> usize {
-    if draw(state, 2) == 0 {
-        if i < n {
-            return i;
-        }
+    if draw(state, 2) == 0 && i < n {
+        return i;
     }
     draw(state, n)
 }
@@ -47,20 +36,15 @@ fn partner(state: &mut u64, q: Nodes, t: Nodes, i: usize) -> usize {
 // The parent, or with two steps the parent's, unless that is past the root.
 fn above(t: Nodes, i: usize, two: bool) -> usize {
     let p = parent(t, i);
-    if two {
-        if parent(t, p) < 255 {
-            return parent(t, p);
-        }
+    if two && parent(t, p) < 255 {
+        return parent(t, p);
     }
     p
 }
 
 // Whether a path ends before a pair: mostly so, if its nodes are unlike.
 fn ends_before(state: &mut u64, q: Nodes, t: Nodes, i: usize, j: usize) -> bool {
-    if kind(q, i) == kind(t, j) {
-        return false;
-    }
-    0 < draw(state, 12)
+    kind(q, i) != kind(t, j) && 0 < draw(state, 12)
 }
 
 // Pairs along a path of both trees, up to their roots at most.
@@ -69,10 +53,7 @@ fn along(state: &mut u64, q: Nodes, t: Nodes, count: usize) -> List {
     let mut i = draw(state, q.n);
     let mut j = partner(state, q, t, i);
     for _ in 0..count {
-        if 254 < i {
-            return l;
-        }
-        if 254 < j {
+        if 254 < i || 254 < j {
             return l;
         }
         l = with_pair(l, i, j);
@@ -126,7 +107,7 @@ fn wild(state: &mut u64, q: Nodes, t: Nodes, count: usize) -> List {
     l
 }
 
-// A random list of 1 to 3 pairs: mostly along a path, sometimes a fork, sometimes rising, sometimes wild.
+/// A random list of 1 to 3 pairs: mostly along a path, sometimes a fork, sometimes rising, sometimes wild.
 pub fn list(state: &mut u64, trees: Trees) -> List {
     let q = trees.q;
     let t = trees.t;

@@ -1,10 +1,10 @@
-// Random texts.
+//! Random texts.
 use super::characters::{any, closing, closing_of, opening, unpaired};
 use super::draw;
 use test_brute::texts::{closes, deeper, opens, partner};
 use test_words::plain::part;
 
-// A text of at most 12 bytes.
+/// A text of at most 12 bytes.
 #[derive(Clone, Copy)]
 pub struct Sample {
     pub len: usize,
@@ -18,7 +18,7 @@ pub fn empty() -> Sample {
     }
 }
 
-// The text with a byte more.
+/// The text with a byte more.
 pub fn with_letter(s: Sample, byte: u8) -> Sample {
     let at = s.len;
     let mut next = s;
@@ -33,7 +33,7 @@ pub fn letter_at(s: Sample, k: usize) -> u8 {
     if k < 12 { s.bytes[k] } else { 0 }
 }
 
-// The text with another byte at a place.
+/// The text with another byte at a place.
 pub fn with_letter_at(s: Sample, k: usize, byte: u8) -> Sample {
     let mut next = s;
     if k < 12 {
@@ -52,15 +52,9 @@ fn letter(state: &mut u64, depth: usize, left: usize) -> u8 {
         return b'.';
     }
     if pick < 4 {
-        if left - depth < 2 {
-            return b'.';
-        }
-        return b'(';
+        return if left - depth < 2 { b'.' } else { b'(' };
     }
-    if depth == 0 {
-        return b'.';
-    }
-    b')'
+    if depth == 0 { b'.' } else { b')' }
 }
 
 // A random structure of 0 to 10 bytes, in dots and round brackets.
@@ -76,9 +70,9 @@ fn dot_bracket_structure(state: &mut u64) -> Sample {
     s
 }
 
-// The bracket that a closing one closes.
-fn opened_by(bytes: [u8; 12], n: usize, k: usize) -> usize {
-    partner(part(&bytes, 0, n), k)
+/// The bytes of a text.
+pub fn bytes_of(s: &Sample) -> &[u8] {
+    part(&s.bytes, 0, s.len)
 }
 
 // Another byte for the one at a place: any unpaired character, any opening bracket, or the closing bracket of the one that it closes.
@@ -88,13 +82,12 @@ fn another(s: Sample, k: usize, state: &mut u64) -> u8 {
         return opening(state);
     }
     if closes(byte) {
-        let bytes = s.bytes;
-        return closing_of(letter_at(s, opened_by(bytes, s.len, k)));
+        return closing_of(letter_at(s, partner(bytes_of(&s), k)));
     }
     unpaired(state)
 }
 
-// The same structure in other characters and other kinds of brackets. They are drawn apart, so that nothing else that is drawn hangs on them.
+/// The same structure in other characters and other kinds of brackets. They are drawn apart, so that nothing else that is drawn hangs on them.
 pub fn respelled(structure: Sample, seed: u64) -> Sample {
     let mut state = seed / 2;
     let mut s = structure;
@@ -104,7 +97,7 @@ pub fn respelled(structure: Sample, seed: u64) -> Sample {
     s
 }
 
-// A random structure of 0 to 10 bytes.
+/// A random structure of 0 to 10 bytes.
 pub fn structure(state: &mut u64) -> Sample {
     let form = dot_bracket_structure(state);
     respelled(form, *state)
@@ -112,10 +105,7 @@ pub fn structure(state: &mut u64) -> Sample {
 
 // A closing bracket at a place becomes, one time in three, one of any kind.
 fn with_flaw_at(s: Sample, k: usize, state: &mut u64) -> Sample {
-    if !closes(letter_at(s, k)) {
-        return s;
-    }
-    if 0 < draw(state, 3) {
+    if !closes(letter_at(s, k)) || 0 < draw(state, 3) {
         return s;
     }
     with_letter_at(s, k, closing(state))
@@ -129,7 +119,7 @@ fn with_flaws(structure: Sample, state: &mut u64) -> Sample {
     s
 }
 
-// A structure some of whose closing brackets are of any kind; one byte of every third is any.
+/// A structure some of whose closing brackets are of any kind; one byte of every third is any.
 pub fn flawed(state: &mut u64) -> Sample {
     let whole = structure(state);
     let s = with_flaws(whole, state);
@@ -140,7 +130,7 @@ pub fn flawed(state: &mut u64) -> Sample {
     with_letter_at(s, at, any(state))
 }
 
-// A random text of 0 to 10 bytes, structure or not.
+/// A random text of 0 to 10 bytes, structure or not.
 pub fn scrawl(state: &mut u64) -> Sample {
     let len = draw(state, 11);
     let mut s = empty();

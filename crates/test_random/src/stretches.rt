@@ -1,29 +1,26 @@
-// Stretches of random structures, every run of two numbers, held to the definition.
-use super::samples::{Sample, structure};
+//! Stretches of random structures, every run of two numbers, held to the definition.
+use super::samples::{Sample, bytes_of, structure};
 use super::tally::{Count, counted, none, print_sample};
+use answer::Place;
 use test_brute::nodes::{Nodes, Reader, reading};
 use test_brute::stretches::{first_byte, is_stretch, last_byte};
-use test_words::answers::{ground_of, kind_of};
 use test_words::plain::part;
 
+// A refusal names ground 15 and no place, and no part of the text is handed back with it.
 fn stretch_right(s: &[u8], r: Reader, a: usize, b: usize) -> bool {
-    let answer = stretch::check(s, a, b);
-    let ground = ground_of(answer);
-    let spelled = stretch::part(s, a, b);
     let nodes = r.nodes;
-    if is_stretch(nodes, a, b) {
-        if ground != 0 {
-            return false;
+    let spelled = stretch::part(s, a, b);
+    match stretch::check(s, a, b) {
+        Ok(()) => {
+            is_stretch(nodes, a, b) && spelled == part(s, first_byte(r, a, b), last_byte(r, a, b))
         }
-        return check::same(spelled, part(s, first_byte(r, a, b), last_byte(r, a, b)));
+        Err(refusal) => {
+            !is_stretch(nodes, a, b)
+                && refusal.ground.number() == 15
+                && refusal.place == Place::Nothing
+                && spelled.is_empty()
+        }
     }
-    if ground != 15 {
-        return false;
-    }
-    if kind_of(answer) != b'-' {
-        return false;
-    }
-    spelled.len() == 0
 }
 
 fn ground(t: Nodes, a: usize, b: usize) -> usize {
@@ -41,16 +38,10 @@ fn from_node(rt: &impl Print, count: Count, s: &[u8], a: usize) -> Count {
     next
 }
 
-fn from_bytes(rt: &impl Print, count: Count, bytes: [u8; 12], n: usize, a: usize) -> Count {
-    from_node(rt, count, part(&bytes, 0, n), a)
-}
-
 fn all_runs(rt: &impl Print, count: Count, sample: Sample) -> Count {
-    let bytes = sample.bytes;
-    let n = sample.len;
     let mut next = count;
     for a in 0..13 {
-        next = from_bytes(rt, next, bytes, n, a);
+        next = from_node(rt, next, bytes_of(&sample), a);
     }
     next
 }

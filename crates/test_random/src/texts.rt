@@ -1,116 +1,64 @@
-// Random texts, and all texts of one byte and of two, held to grounds 1 to 4 and 24 and to the leftmost leaves and the kinds of their nodes.
-use super::samples::{Sample, empty, flawed, scrawl, structure, with_letter};
+//! Random texts, and all texts of one byte and of two, held to grounds 1 to 4 and 24 and to the leftmost leaves and the kinds of their nodes.
+use super::samples::{Sample, bytes_of, empty, flawed, scrawl, structure, with_letter};
 use super::tally::{Count, counted, none, print_sample};
-use answer::Answer;
+use answer::{Place, Refusal};
 use test_brute::nodes::{Nodes, kind, leftmost, nodes_of};
 use test_brute::texts::{Verdict, judge};
-use test_words::answers::{ground_of, kind_of, place_of};
-use test_words::plain::{part, small, wide};
+use test_words::plain::{byte_at, less, small, wide};
+use tree::Tree;
 
-// Whether the nodes of a tree that was read are of these kinds: it has them of all below the added root, which is the last.
-fn are_kinds_of(kinds: [u8; 256], nodes: Nodes) -> bool {
-    for i in 0..16 {
-        if i + 1 < nodes.n {
-            if kinds[i] != kind(nodes, i) {
-                return false;
-            }
-        }
-    }
-    true
+// Whether a tree that was read has these nodes: the leftmost leaf of each, and the kind of each below the added root, which is the last.
+fn is_tree_of(tree: Tree, nodes: Nodes) -> bool {
+    let leaves = tree.leaves();
+    let kinds = tree.kinds();
+    tree.node_count() == nodes.n
+        && (0..nodes.n).all(|i| wide(byte_at(leaves, i)) == leftmost(nodes, i))
+        && (0..less(nodes.n)).all(|i| byte_at(kinds, i) == kind(nodes, i))
 }
 
-// Whether a tree that was read has these nodes.
-fn is_tree_of(n: usize, left: [u8; 256], nodes: Nodes) -> bool {
-    if n != nodes.n {
-        return false;
-    }
-    for i in 0..16 {
-        if i < nodes.n {
-            if wide(left[i]) != leftmost(nodes, i) {
-                return false;
-            }
-        }
-    }
-    true
-}
-
-fn kind_asked(ground: usize) -> u8 {
-    if ground == 0 { b'-' } else { b'Q' }
-}
-
-// Whether an answer is what a verdict asks for.
-fn is_answer(answer: Answer, v: Verdict) -> bool {
-    if ground_of(answer) != v.ground {
-        return false;
-    }
-    if kind_of(answer) != kind_asked(v.ground) {
-        return false;
-    }
-    place_of(answer) == v.at
+// Whether a refusal is what a verdict asks for.
+fn is_refusal(refusal: Refusal, v: Verdict) -> bool {
+    refusal.ground.number() == v.ground && refusal.place == Place::ByteInQ(v.at)
 }
 
 // Whether a text that is refused is so in the calls on a stretch too, with no part of it handed back.
 fn stretch_refused(s: &[u8], v: Verdict) -> bool {
-    if !is_answer(stretch::check(s, 0, 0), v) {
-        return false;
+    match stretch::check(s, 0, 0) {
+        Ok(()) => false,
+        Err(refusal) => is_refusal(refusal, v) && stretch::part(s, 0, 0).is_empty(),
     }
-    stretch::part(s, 0, 0).len() == 0
 }
 
-// The nodes of the tree that stands beside an answer: those of "." beside a refusal.
-fn nodes_asked(s: &[u8], ground: usize) -> Nodes {
-    if ground == 0 {
-        return nodes_of(s);
-    }
-    nodes_of(b".")
-}
-
+// Beside a refusal stands the tree of ".".
 fn read_right(s: &[u8]) -> bool {
-    let r = tree::read(s);
-    let tree = r.tree;
-    let answer = r.answer;
-    let left = tree.left;
-    let kinds = tree.kinds;
-    let v = judge(s);
-    let nodes = nodes_asked(s, v.ground);
-    if !is_answer(answer, v) {
-        return false;
+    match (tree::read(s), judge(s)) {
+        (Ok(tree), None) => is_tree_of(tree, nodes_of(s)),
+        (Err(refused), Some(v)) => {
+            is_refusal(refused.refusal, v)
+                && is_tree_of(refused.tree, nodes_of(b"."))
+                && stretch_refused(s, v)
+        }
+        _ => false,
     }
-    if !is_tree_of(tree.n, left, nodes) {
-        return false;
-    }
-    if !are_kinds_of(kinds, nodes) {
-        return false;
-    }
-    if v.ground == 0 {
-        return true;
-    }
-    stretch_refused(s, v)
 }
 
 // One random text: every other one is a structure, and of the others every other one a flawed one.
 fn text(state: &mut u64, k: usize) -> Sample {
-    if k % 4 == 0 {
-        return scrawl(state);
+    match k % 4 {
+        0 => scrawl(state),
+        2 => flawed(state),
+        _ => structure(state),
     }
-    if k % 4 == 2 {
-        return flawed(state);
-    }
-    structure(state)
 }
 
-fn right_bytes(bytes: [u8; 12], n: usize) -> bool {
-    read_right(part(&bytes, 0, n))
-}
-
-fn ground_bytes(bytes: [u8; 12], n: usize) -> usize {
-    judge(part(&bytes, 0, n)).ground
+fn ground_of(s: &[u8]) -> usize {
+    judge(s).map_or(0, |v| v.ground)
 }
 
 fn one(rt: &impl Print, count: Count, sample: Sample) -> Count {
-    let bytes = sample.bytes;
-    let right = right_bytes(bytes, sample.len);
-    let next = counted(rt, count, ground_bytes(bytes, sample.len), right);
+    let text = bytes_of(&sample);
+    let right = read_right(text);
+    let next = counted(rt, count, ground_of(text), right);
     if !right {
         print_sample(rt, b"  in the text ", sample);
     }
@@ -127,7 +75,7 @@ pub fn texts(rt: &impl Print, cases: usize, seed: u64) -> Count {
     count
 }
 
-// All texts of one byte.
+/// All texts of one byte.
 pub fn all_bytes(rt: &impl Print) -> Count {
     let mut count = none();
     for a in 0..256 {
@@ -145,7 +93,7 @@ fn all_behind(rt: &impl Print, count: Count, first: Sample) -> Count {
     next
 }
 
-// All texts of two bytes.
+/// All texts of two bytes.
 pub fn all_two_bytes(rt: &impl Print) -> Count {
     let mut count = none();
     for a in 0..256 {

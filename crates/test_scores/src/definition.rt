@@ -1,4 +1,4 @@
-// What a score text is, and what the text of a number is, straight by the words of document 02, a.
+//! What a score text is, and what the text of a number is, straight by the rules for it.
 ghost use Rattle.std.specs.Prelude.{◌<◌};
 
 use test_random::samples::{Sample, empty, with_letter};
@@ -81,46 +81,27 @@ fn with_byte(w: Walk, at: usize, byte: u8) -> Walk {
 
 fn walked(s: &[u8]) -> Walk {
     let mut w = start();
-    for k in 0..s.len() {
-        w = with_byte(w, k, s[k]);
+    for (k, &byte) in s.iter().enumerate() {
+        w = with_byte(w, k, byte);
     }
     w
 }
 
 // One to five digits, a point, two digits, and no idle leading zero.
 fn has_form(w: Walk) -> bool {
-    if w.misplaced {
-        return false;
-    }
-    if !w.point {
-        return false;
-    }
-    if !within(1, 5, w.before) {
-        return false;
-    }
-    if w.behind != 2 {
-        return false;
-    }
-    if w.zero_first {
-        return w.before == 1;
-    }
-    true
+    !w.misplaced
+        && w.point
+        && within(1, 5, w.before)
+        && w.behind == 2
+        && (!w.zero_first || w.before == 1)
 }
 
 // Beside the form: no minus before 0.00, and no more than 10000.00 on either side of zero.
 fn is_score(w: Walk) -> bool {
-    if !has_form(w) {
-        return false;
-    }
-    if w.minus {
-        if w.number == 0 {
-            return false;
-        }
-    }
-    w.number <= 1000000
+    has_form(w) && !(w.minus && w.number == 0) && w.number <= 1000000
 }
 
-// What reading a text must answer: a ground, or 0 with the sign and the size of the score.
+/// What reading a text must answer: a ground, or 0 with the sign and the size of the score.
 #[derive(Clone, Copy)]
 pub struct Meant {
     pub ground: usize,
@@ -169,28 +150,24 @@ fn with_place(t: Sample, n: usize, place: usize) -> Sample {
     if place == 2 {
         return with_letter(with_letter(t, digit_at(n, place)), b'.');
     }
-    if 2 < place {
-        if n < unit(place) {
-            return t;
-        }
+    if 2 < place && n < unit(place) {
+        return t;
     }
     with_letter(t, digit_at(n, place))
 }
 
 fn with_sign_of(minus: bool, n: usize) -> Sample {
-    if minus {
-        if 0 < n {
-            return with_letter(empty(), b'-');
-        }
+    if minus && 0 < n {
+        return with_letter(empty(), b'-');
     }
     empty()
 }
 
-// The text of a number of hundredths by its sign and its size, which has at most eight digits.
+/// The text of a number of hundredths by its sign and its size, which has at most eight digits.
 pub fn spelled(minus: bool, n: usize) -> Sample {
     let mut t = with_sign_of(minus, n);
-    for k in 0..8 {
-        t = with_place(t, n, 7 - k);
+    for place in (0..8).rev() {
+        t = with_place(t, n, place);
     }
     t
 }

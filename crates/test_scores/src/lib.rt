@@ -1,4 +1,4 @@
-// Scores and totals as texts with two decimals, held to the words of document 02: all scores, random texts and random numbers.
+//! Scores and totals as texts with two decimals, held to their definition: all scores, random texts and random numbers.
 #![tactic(auto)]
 
 pub mod all;

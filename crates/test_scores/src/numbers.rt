@@ -1,4 +1,4 @@
-// Random numbers of all sizes on both sides of zero, written to outputs of 0 to 12 bytes and held to the definition.
+//! Random numbers of all sizes on both sides of zero, written to outputs of 0 to 12 bytes and held to the definition.
 use super::definition::spelled;
 use super::looks::{DIRT, is_written};
 use test_random::draw;
@@ -77,22 +77,15 @@ fn length_asked(length: usize, ground: usize) -> usize {
 
 fn text_right(number: i64, room: usize, text: &[u8], ground: usize) -> bool {
     let mut out = [DIRT; 12];
-    if 12 < room {
-        return false;
-    }
-    is_written(number, &mut out[..room], text, ground)
-}
-
-fn bytes_right(number: i64, room: usize, bytes: [u8; 12], n: usize, ground: usize) -> bool {
-    text_right(number, room, part(&bytes, 0, n), ground)
+    room <= 12 && is_written(number, &mut out[..room], text, ground)
 }
 
 fn one(rt: &impl Print, count: Count, minus: bool, size: usize, room: usize) -> Count {
     let text = text_of(minus, size);
-    let bytes = text.bytes;
     let number = with_sign(minus, size);
     let ground = ground_asked(size, text.len, room);
-    let right = bytes_right(number, room, bytes, length_asked(text.len, ground), ground);
+    let asked = part(&text.bytes, 0, length_asked(text.len, ground));
+    let right = text_right(number, room, asked, ground);
     if !right {
         print_sample(rt, b"  in a number of the text ", text);
     }

@@ -1,11 +1,11 @@
-// Random score texts, held to the definition: some as they are written, some damaged in one byte, some wild.
+//! Random score texts, held to the definition: some as they are written, some damaged in one byte, some wild.
 use super::definition::{judge, spelled};
 use super::looks::is_read;
 use super::numbers::any_below_a_million;
 use test_random::draw;
-use test_random::samples::{Sample, empty, letter_at, with_letter, with_letter_at};
+use test_random::samples::{Sample, bytes_of, empty, letter_at, with_letter, with_letter_at};
 use test_random::tally::{Count, counted, none, print_sample};
-use test_words::plain::{byte_at, more, part, plus, small};
+use test_words::plain::{byte_at, more, plus, small};
 
 // A byte: mostly one of a score text or one that is often taken for it, now and then any.
 fn byte(state: &mut u64) -> u8 {
@@ -50,10 +50,8 @@ fn put_in(s: Sample, at: usize, byte: u8) -> Sample {
 fn taken_out(s: Sample, at: usize) -> Sample {
     let mut next = empty();
     for k in 0..12 {
-        if k != at {
-            if k < s.len {
-                next = with_letter(next, letter_at(s, k));
-            }
+        if k != at && k < s.len {
+            next = with_letter(next, letter_at(s, k));
         }
     }
     next
@@ -63,15 +61,14 @@ fn taken_out(s: Sample, at: usize) -> Sample {
 fn damaged(state: &mut u64) -> Sample {
     let s = written(state);
     let at = draw(state, s.len);
-    let way = draw(state, 3);
-    if way == 0 {
-        return with_letter_at(s, at, byte(state));
+    match draw(state, 3) {
+        0 => with_letter_at(s, at, byte(state)),
+        1 => {
+            let before = draw(state, more(s.len));
+            put_in(s, before, byte(state))
+        }
+        _ => taken_out(s, at),
     }
-    if way == 1 {
-        let before = draw(state, more(s.len));
-        return put_in(s, before, byte(state));
-    }
-    taken_out(s, at)
 }
 
 // Any bytes, 0 to 12 of them.
@@ -93,22 +90,14 @@ fn text(state: &mut u64) -> Sample {
     }
 }
 
-fn right_bytes(bytes: [u8; 12], n: usize) -> bool {
-    let s = part(&bytes, 0, n);
-    is_read(s, judge(s))
-}
-
-fn ground_bytes(bytes: [u8; 12], n: usize) -> usize {
-    judge(part(&bytes, 0, n)).ground
-}
-
 fn one(rt: &impl Print, count: Count, sample: Sample) -> Count {
-    let bytes = sample.bytes;
-    let right = right_bytes(bytes, sample.len);
+    let text = bytes_of(&sample);
+    let meant = judge(text);
+    let right = is_read(text, meant);
     if !right {
         print_sample(rt, b"  in the text ", sample);
     }
-    counted(rt, count, ground_bytes(bytes, sample.len), right)
+    counted(rt, count, meant.ground, right)
 }
 
 pub fn score_texts(rt: &impl Print, cases: usize, seed: u64) -> Count {

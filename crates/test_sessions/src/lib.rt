@@ -1,26 +1,20 @@
-// Random sessions on two small trees: eight lists are added and six changes made, with the best chain after each step; then the open areas of
-// every seed and the deck.
+//! Random sessions on two small trees: eight lists are added and six changes made, with the best chain after each step; then the open areas of
+//! every seed and the deck.
 #![tactic(auto)]
 
 mod look;
 pub mod play;
 
-ghost use Rattle.chain.specs.View.{Sound};
-
 use look::{best, deal, list_areas};
-use play::{Play, add, change};
+use play::{Play, add, change, opened};
 use test_brute::nodes::nodes_of;
 use test_brute::seeds::Trees;
 use test_brute::table::no_seeds;
 use test_random::draw;
-use test_random::samples::{Sample, respelled, structure};
+use test_random::samples::{Sample, bytes_of, respelled, structure};
 use test_random::tally::{Counts, marked, none, nothing, print_if_wrong, with_texts};
-use test_words::plain::part;
 
-fn adds(rt: &impl Print, p: Play, state: &mut u64) -> Play
-    requires { Sound p.session }
-    ensures { Sound result.session }
-{
+fn adds(rt: &impl Print, p: Play, state: &mut u64) -> Play {
     let mut next = p;
     for _ in 0usize..8 {
         next = best(rt, add(rt, next, state));
@@ -28,10 +22,7 @@ fn adds(rt: &impl Print, p: Play, state: &mut u64) -> Play
     next
 }
 
-fn changes(rt: &impl Print, p: Play, state: &mut u64) -> Play
-    requires { Sound p.session }
-    ensures { Sound result.session }
-{
+fn changes(rt: &impl Print, p: Play, state: &mut u64) -> Play {
     let mut next = p;
     for _ in 0usize..6 {
         next = best(rt, change(rt, next, state));
@@ -39,10 +30,7 @@ fn changes(rt: &impl Print, p: Play, state: &mut u64) -> Play
     next
 }
 
-fn all_areas(rt: &impl Print, p: Play) -> Play
-    requires { Sound p.session }
-    ensures { Sound result.session }
-{
+fn all_areas(rt: &impl Print, p: Play) -> Play {
     let mut next = p;
     for i in 0..8 {
         next = list_areas(rt, next, i);
@@ -51,22 +39,16 @@ fn all_areas(rt: &impl Print, p: Play) -> Play
 }
 
 // The session of a random case once all is done to it.
-fn played(rt: &impl Print, q: &[u8], t: &[u8], state: &mut u64, counts: Counts) -> Play
-    ensures { Sound result.session }
-{
-    let opened = chain::open(q, t);
-    let session = opened.session;
-    let count = counts.count;
-    let seen = counts.seen;
+fn played(rt: &impl Print, q: &[u8], t: &[u8], state: &mut u64, counts: Counts) -> Play {
     let start = Play {
-        session,
+        session: opened(q, t),
         trees: Trees {
             q: nodes_of(q),
             t: nodes_of(t),
         },
         table: no_seeds(),
-        count,
-        seen,
+        count: counts.count,
+        seen: counts.seen,
     };
     all_areas(rt, changes(rt, adds(rt, start, state), state))
 }
@@ -74,49 +56,27 @@ fn played(rt: &impl Print, q: &[u8], t: &[u8], state: &mut u64, counts: Counts) 
 // A random case on two texts, with its deck.
 fn on_texts(rt: &impl Print, q: &[u8], t: &[u8], state: &mut u64, counts: Counts) -> Counts {
     let p = played(rt, q, t, state, counts);
-    let right = deal(p, q, t);
-    let after = p.count;
     let seen = p.seen;
-    Counts {
-        count: marked(rt, after, right, b"a deck"),
-        seen,
-    }
-}
-
-fn on_bytes(
-    rt: &impl Print,
-    q: [u8; 12],
-    n: usize,
-    t: [u8; 12],
-    m: usize,
-    state: &mut u64,
-    counts: Counts,
-) -> Counts {
-    on_texts(rt, part(&q, 0, n), part(&t, 0, m), state, counts)
+    let count = marked(rt, p.count, deal(p, q, t), b"a deck");
+    Counts { count, seen }
 }
 
 // What is counted from case to case, with one on two texts more.
 fn begun(q: Sample, t: Sample, counts: Counts) -> Counts {
-    let count = counts.count;
-    let seen = counts.seen;
     Counts {
-        count,
-        seen: with_texts(seen, q, t),
+        count: counts.count,
+        seen: with_texts(counts.seen, q, t),
     }
 }
 
 // One random case: its two texts are printed if an answer in it is wrong.
 fn one(rt: &impl Print, q: Sample, t: Sample, state: &mut u64, counts: Counts) -> Counts {
-    let before = counts.count;
-    let q_bytes = q.bytes;
-    let t_bytes = t.bytes;
-    let next = on_bytes(rt, q_bytes, q.len, t_bytes, t.len, state, counts);
-    let after = next.count;
-    print_if_wrong(rt, before, after, q, t);
+    let next = on_texts(rt, bytes_of(&q), bytes_of(&t), state, counts);
+    print_if_wrong(rt, counts.count, next.count, q, t);
     next
 }
 
-// The second structure: half the time the first again, in other characters.
+/// The second structure: half the time the first again, in other characters.
 pub fn other(q: Sample, state: &mut u64) -> Sample {
     if draw(state, 2) == 0 {
         return respelled(q, *state);

@@ -1,19 +1,17 @@
-// A random session beside a plain table of its seeds: lists are added, and seeds withdrawn, brought back and rescored, and every answer is
-// held to what the table asks.
-ghost use Rattle.chain.specs.View.{Sound};
+//! A random session beside a plain table of its seeds: lists are added, and seeds withdrawn, brought back and rescored, and every answer is
+//! held to what the table asks.
 
-use answer::Answer;
+use answer::{Place, Refusal};
 use chain::{Added, Changed, Session};
-use test_brute::seeds::{List, Trees, both, equal, judge};
+use test_brute::seeds::{List, Trees, judge};
 use test_brute::table::{Table, is_present, with_points, with_presence, with_seed};
-use test_calls::changes::moved;
+use test_calls::changes::{handed_over, moved};
 use test_random::draw;
 use test_random::lists::list;
 use test_random::tally::{Count, Seen, counted, with_seeds};
-use test_words::answers::{ground_of, kind_of, place_of};
 use test_words::plain::{less, more, part, within};
 
-// The session and its trees, the table of its seeds, and what is counted.
+/// The session and its trees, the table of its seeds, and what is counted.
 #[derive(Clone, Copy)]
 pub struct Play {
     pub session: Session,
@@ -23,37 +21,25 @@ pub struct Play {
     pub seen: Seen,
 }
 
+/// A session on two structures.
+pub fn opened(q: &[u8], t: &[u8]) -> Session {
+    handed_over(chain::open(q, t)).session
+}
+
 // The score that so many points are.
 fn score_of(points: usize) -> i32 {
     let scores = [-5, -4, -3, -2, -1, 0, 1, 2, 3, 4, 5];
     if points < 11 { scores[points] } else { 0 }
 }
 
-// A refused add names the number that the seed would have got, and an accepted one answers it.
-fn place_asked(number: usize, ground: usize) -> usize {
-    if ground == 0 { 0 } else { number }
-}
-
-fn kind_asked(ground: usize) -> u8 {
-    if ground == 0 { b'-' } else { b's' }
-}
-
-fn number_asked(number: usize, ground: usize) -> usize {
-    if ground == 0 { number } else { 0 }
-}
-
-// Whether an add answered as the ground asks, for the seed of this number.
-fn add_right(answer: Answer, given: usize, ground: usize, number: usize) -> bool {
-    if ground_of(answer) != ground {
-        return false;
+// Whether an add answered as the ground asks, for the seed of this number: an accepted one answers the number, and a refused one names it.
+fn add_right(answer: Result<usize, Refusal>, ground: usize, number: usize) -> bool {
+    match answer {
+        Ok(given) => ground == 0 && given == number,
+        Err(refusal) => {
+            refusal.ground.number() == ground && refusal.place == Place::Seed(number)
+        }
     }
-    if kind_of(answer) != kind_asked(ground) {
-        return false;
-    }
-    if place_of(answer) != place_asked(number, ground) {
-        return false;
-    }
-    given == number_asked(number, ground)
 }
 
 fn with_new(t: Table, trees: Trees, l: List, points: usize, ground: usize) -> Table {
@@ -63,18 +49,17 @@ fn with_new(t: Table, trees: Trees, l: List, points: usize, ground: usize) -> Ta
     t
 }
 
-pub fn added(session: Session, qs: [u8; 4], ts: [u8; 4], n: usize, score: i32) -> Added
-    requires { Sound session }
-    ensures { Sound result.session }
-{
-    session.added(part(&qs, 0, n), part(&ts, 0, n), score)
+pub fn added(session: Session, list: List, score: i32) -> Added {
+    let count = list.q.count;
+    session.added(
+        part(&list.q.node, 0, count),
+        part(&list.t.node, 0, count),
+        score,
+    )
 }
 
-// One random list is added.
-pub fn add(rt: &impl Print, p: Play, state: &mut u64) -> Play
-    requires { Sound p.session }
-    ensures { Sound result.session }
-{
+/// One random list is added.
+pub fn add(rt: &impl Print, p: Play, state: &mut u64) -> Play {
     let trees = p.trees;
     let table = p.table;
     let session = p.session;
@@ -82,17 +67,11 @@ pub fn add(rt: &impl Print, p: Play, state: &mut u64) -> Play
     let seen = p.seen;
     let l = list(state, trees);
     let points = draw(state, 11);
-    let q = l.q;
-    let t = l.t;
-    let qs = q.node;
-    let ts = t.node;
-    let r = added(session, qs, ts, q.count, score_of(points));
-    let answer = r.answer;
+    let r = added(session, l, score_of(points));
     let ground = judge(trees, l);
-    let right = add_right(answer, r.number, ground, more(table.count));
-    let later = r.session;
+    let right = add_right(r.answer, ground, more(table.count));
     let mut next = p;
-    next.session = later;
+    next.session = r.session;
     next.table = with_new(table, trees, l, points, ground);
     next.count = counted(rt, count, ground, right);
     next.seen = with_seeds(seen, ground);
@@ -108,7 +87,7 @@ fn move_ground(t: Table, number: usize, to: bool) -> usize {
     if !given_out(t, number) {
         return 9;
     }
-    if equal(is_present(t, less(number)), to) {
+    if is_present(t, less(number)) == to {
         10
     } else {
         0
@@ -122,26 +101,26 @@ fn with_moved(t: Table, number: usize, to: bool, ground: usize) -> Table {
     t
 }
 
-fn answered(rt: &impl Print, p: Play, r: Changed, ground: usize, table: Table) -> Play
-    requires { Sound r.session }
-    ensures { Sound result.session }
-{
+// Whether a change answered as the ground asks: a refusal names no place.
+fn change_right(answer: Result<(), Refusal>, ground: usize) -> bool {
+    match answer {
+        Ok(()) => ground == 0,
+        Err(refusal) => refusal.ground.number() == ground && refusal.place == Place::Nothing,
+    }
+}
+
+fn answered(rt: &impl Print, p: Play, r: Changed, ground: usize, table: Table) -> Play {
     let count = p.count;
-    let answer = r.answer;
-    let session = r.session;
-    let right = both(ground_of(answer) == ground, kind_of(answer) == b'-');
+    let right = change_right(r.answer, ground);
     let mut next = p;
-    next.session = session;
+    next.session = r.session;
     next.table = table;
     next.count = counted(rt, count, ground, right);
     next
 }
 
 // A seed is withdrawn, or brought back if it is to be present.
-fn move_to(rt: &impl Print, p: Play, number: usize, to: bool) -> Play
-    requires { Sound p.session }
-    ensures { Sound result.session }
-{
+fn move_to(rt: &impl Print, p: Play, number: usize, to: bool) -> Play {
     let session = p.session;
     let table = p.table;
     let ground = move_ground(table, number, to);
@@ -160,10 +139,7 @@ fn with_rescored(t: Table, number: usize, points: usize, ground: usize) -> Table
     t
 }
 
-fn rescore(rt: &impl Print, p: Play, number: usize, points: usize) -> Play
-    requires { Sound p.session }
-    ensures { Sound result.session }
-{
+fn rescore(rt: &impl Print, p: Play, number: usize, points: usize) -> Play {
     let session = p.session;
     let table = p.table;
     let ground = rescore_ground(table, number);
@@ -177,11 +153,8 @@ fn rescore(rt: &impl Print, p: Play, number: usize, points: usize) -> Play
     )
 }
 
-// One random change.
-pub fn change(rt: &impl Print, p: Play, state: &mut u64) -> Play
-    requires { Sound p.session }
-    ensures { Sound result.session }
-{
+/// One random change.
+pub fn change(rt: &impl Print, p: Play, state: &mut u64) -> Play {
     let table = p.table;
     let number = draw(state, more(more(table.count)));
     let way = draw(state, 5);

@@ -1,20 +1,20 @@
-// Answers in words, as the papers print them.
-use super::{Text, with_bytes, with_spaced};
-use answer::{Answer, Place, number};
+//! Answers in words, as the papers print them.
+use super::{Text, with_bytes, with_number, with_spaced};
+use answer::{Place, Refusal};
 
-// The number of the ground that an answer gives, and 0 if it gives none.
-pub fn ground_of(answer: Answer) -> usize {
+/// The number of the ground that an answer gives, and 0 if it gives none.
+pub fn ground_of<T: Copy>(answer: Result<T, Refusal>) -> usize {
     match answer {
-        Answer::Accepted => 0,
-        Answer::Refused { ground, place: _ } => number(ground),
+        Ok(_) => 0,
+        Err(refusal) => refusal.ground.number(),
     }
 }
 
-// What its place is: a byte of Q or of T, a seed, or nothing.
-pub fn kind_of(answer: Answer) -> u8 {
+/// What its place is: a byte of Q or of T, a seed, or nothing.
+pub fn kind_of<T: Copy>(answer: Result<T, Refusal>) -> u8 {
     match answer {
-        Answer::Accepted => b'-',
-        Answer::Refused { ground: _, place } => match place {
+        Ok(_) => b'-',
+        Err(refusal) => match refusal.place {
             Place::ByteInQ(_) => b'Q',
             Place::ByteInT(_) => b'T',
             Place::Seed(_) => b's',
@@ -23,13 +23,12 @@ pub fn kind_of(answer: Answer) -> u8 {
     }
 }
 
-// The byte or the seed number of its place, and 0 if it has none.
-pub fn place_of(answer: Answer) -> usize {
+/// The byte or the seed number of its place, and 0 if it has none.
+pub fn place_of<T: Copy>(answer: Result<T, Refusal>) -> usize {
     match answer {
-        Answer::Accepted => 0,
-        Answer::Refused { ground: _, place } => match place {
-            Place::ByteInQ(k) => k,
-            Place::ByteInT(k) => k,
+        Ok(_) => 0,
+        Err(refusal) => match refusal.place {
+            Place::ByteInQ(k) | Place::ByteInT(k) => k,
             Place::Seed(number) => number,
             Place::Nothing => 0,
         },
@@ -45,12 +44,14 @@ fn with_place(t: Text, place: Place) -> Text {
     }
 }
 
-pub fn with_answer(t: Text, answer: Answer) -> Text {
+pub fn with_refusal(t: Text, refusal: Refusal) -> Text {
+    let head = with_spaced(with_bytes(t, b"refused"), refusal.ground.number());
+    with_place(head, refusal.place)
+}
+
+pub fn with_answer<T: Copy>(t: Text, answer: Result<T, Refusal>) -> Text {
     match answer {
-        Answer::Accepted => with_bytes(t, b"accepted"),
-        Answer::Refused { ground, place } => {
-            let head = with_spaced(with_bytes(t, b"refused"), number(ground));
-            with_place(head, place)
-        }
+        Ok(_) => with_bytes(t, b"accepted"),
+        Err(refusal) => with_refusal(t, refusal),
     }
 }

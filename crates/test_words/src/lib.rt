@@ -1,4 +1,4 @@
-// Bytes, words and lines of text: a script is read by them, and what a call answers is put into words.
+//! Bytes, words and lines of text: a script is read by them, and what a call answers is put into words.
 #![tactic(auto)]
 
 pub mod answers;
@@ -11,7 +11,7 @@ use itoa::Buffer;
 use plain::part;
 use std::io::{self, Write};
 
-// A line of text that is put together piece by piece.
+/// A line of text that is put together piece by piece.
 #[derive(Clone, Copy)]
 pub struct Text {
     pub len: usize,
@@ -37,8 +37,8 @@ pub fn with_byte(t: Text, byte: u8) -> Text {
 
 pub fn with_bytes(t: Text, bytes: &[u8]) -> Text {
     let mut next = t;
-    for k in 0..bytes.len() {
-        next = with_byte(next, bytes[k]);
+    for &byte in bytes {
+        next = with_byte(next, byte);
     }
     next
 }
@@ -48,22 +48,23 @@ pub fn with_number(t: Text, n: usize) -> Text {
     with_bytes(t, digits.format(n).as_bytes())
 }
 
-// A space and a number.
+/// A space and a number.
 pub fn with_spaced(t: Text, n: usize) -> Text {
     with_number(with_byte(t, b' '), n)
 }
 
 fn glyph(n: u8) -> u8 {
-    if n < 10 {
-        return 48 + n;
+    match n {
+        0..=9 => b'0' + n,
+        10..=15 => b'a' + (n - 10),
+        _ => b'?',
     }
-    if n < 16 { 87 + n } else { b'?' }
 }
 
 pub fn with_hex(t: Text, bytes: &[u8]) -> Text {
     let mut next = t;
-    for k in 0..bytes.len() {
-        next = with_byte(with_byte(next, glyph(bytes[k] / 16)), glyph(bytes[k] % 16));
+    for &byte in bytes {
+        next = with_byte(with_byte(next, glyph(byte / 16)), glyph(byte % 16));
     }
     next
 }
@@ -78,33 +79,27 @@ fn with_letter(t: Text, byte: u8) -> Text {
 
 pub fn with_lines(t: Text, bytes: &[u8]) -> Text {
     let mut next = t;
-    for k in 0..bytes.len() {
-        next = with_letter(next, bytes[k]);
+    for &byte in bytes {
+        next = with_letter(next, byte);
     }
     next
 }
 
-fn are(bytes: [u8; 512], n: usize, others: &[u8]) -> bool {
-    check::same(part(&bytes, 0, n), others)
-}
-
-// Whether the text is just these bytes.
+/// Whether the text is just these bytes.
 pub fn is(t: Text, bytes: &[u8]) -> bool {
-    let own = t.bytes;
-    are(own, t.len, bytes)
+    part(&t.bytes, 0, t.len) == bytes
 }
 
-// Whether it begins with this byte.
+/// Whether it begins with this byte.
 pub fn begins(t: Text, byte: u8) -> bool {
     t.bytes[0] == byte
 }
 
-// Prints bytes as they are. An output that takes no more is left to whoever reads it.
+/// Prints bytes as they are. An output that takes no more is left to whoever reads it.
 pub fn print_bytes(rt: &impl Print, bytes: &[u8]) {
     let _ = io::writer(rt).write_all(bytes);
 }
 
 pub fn print(rt: &impl Print, t: Text) {
-    let bytes = t.bytes;
-    print_bytes(rt, part(&bytes, 0, t.len));
+    print_bytes(rt, part(&t.bytes, 0, t.len));
 }

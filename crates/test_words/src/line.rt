@@ -1,7 +1,7 @@
-// The words of a line of a script: they stand with one space between, and a line feed ends the line.
-use super::plain::{byte_at, find, more, part, small, wide};
+//! The words of a line of a script: they stand with one space between, and a line feed ends the line.
+use super::plain::{byte_at, find, more, part, rest, small, wide};
 
-// Where the word that begins at a place ends.
+/// Where the word that begins at a place ends.
 pub fn word_end(s: &[u8], at: usize) -> usize {
     find(s, at, b' ', b'\n')
 }
@@ -24,12 +24,12 @@ fn behind(s: &[u8], at: usize, byte: u8) -> usize {
     }
 }
 
-// Where the word after the one at a place begins: the line's end after the last.
+/// Where the word after the one at a place begins: the line's end after the last.
 pub fn next(s: &[u8], at: usize) -> usize {
     behind(s, at, b' ')
 }
 
-// The text that a word stands for: "-" is the empty one.
+/// The text that a word stands for: "-" is the empty one.
 pub fn structure(s: &[u8], at: usize) -> &[u8] {
     if check::same(word(s, at), b"-") {
         return part(s, at, at);
@@ -37,50 +37,42 @@ pub fn structure(s: &[u8], at: usize) -> &[u8] {
     word(s, at)
 }
 
-// Where the line's sign "=" stands, or its end if it has none.
+/// Where the line's sign "=" stands, or its end if it has none.
 pub fn sign(s: &[u8], at: usize) -> usize {
     find(s, at, b'=', b'\n')
 }
 
-// A number with a digit more, up to 19 digits: a longer one stays where it is.
+/// A number with a digit more, up to 19 digits: a longer one stays where it is.
 pub fn tenfold(n: usize, digit: u8) -> usize {
-    if digit < 48 {
-        return n;
-    }
-    if n < 1000000000000000000 {
-        n * 10 + wide(digit - 48)
+    if b'0' <= digit && n < 1000000000000000000 {
+        n * 10 + wide(digit - b'0')
     } else {
         n
     }
 }
 
-// The number that a word begins with.
+/// The number that a word begins with.
 pub fn number(s: &[u8], at: usize) -> usize {
     let mut n = 0;
-    for k in at..s.len() {
-        if s[k] < b'0' {
+    for &byte in rest(s, at) {
+        if !byte.is_ascii_digit() {
             return n;
         }
-        if b'9' < s[k] {
-            return n;
-        }
-        n = tenfold(n, s[k]);
+        n = tenfold(n, byte);
     }
     n
 }
 
-// The same, or another number where the word has none.
+/// The same, or another number where the word has none.
 pub fn number_or(s: &[u8], at: usize, other: usize) -> usize {
-    if byte_at(s, at) < b'0' {
-        return other;
+    if byte_at(s, at).is_ascii_digit() {
+        number(s, at)
+    } else {
+        other
     }
-    if b'9' < byte_at(s, at) {
-        return other;
-    }
-    number(s, at)
 }
 
-// The number as a score, and the same below 0.
+/// The number as a score, and the same below 0.
 pub fn positive(n: usize) -> i32 {
     if n < 2000000000 { n as i32 } else { 0 }
 }
@@ -89,7 +81,7 @@ pub fn negative(n: usize) -> i32 {
     if n < 2000000000 { 0 - n as i32 } else { 0 }
 }
 
-// The number with its sign.
+/// The number with its sign.
 pub fn score(s: &[u8], at: usize) -> i32 {
     if byte_at(s, at) == b'-' {
         return negative(number(s, more(at)));
@@ -97,7 +89,7 @@ pub fn score(s: &[u8], at: usize) -> i32 {
     positive(number(s, at))
 }
 
-// The pairs of a seed, as far as count.
+/// The pairs of a seed, as far as count.
 #[derive(Clone, Copy)]
 pub struct Pairs {
     pub count: usize,
@@ -121,7 +113,7 @@ fn after_colon(s: &[u8], at: usize) -> usize {
     behind(s, at, b':')
 }
 
-// The pairs that the words from a place on are, up to the word "score".
+/// The pairs that the words from a place on are, up to the word "score".
 pub fn pairs_at(s: &[u8], at: usize) -> Pairs {
     let mut p = Pairs {
         count: 0,
@@ -139,7 +131,7 @@ pub fn pairs_at(s: &[u8], at: usize) -> Pairs {
     p
 }
 
-// Where the word after "score" begins.
+/// Where the word after "score" begins.
 pub fn after_score(s: &[u8], at: usize) -> usize {
     let mut k = at;
     for _ in 0usize..65 {
