@@ -1,3 +1,4 @@
+pub mod Lanes
 pub mod PastTurns
 pub mod Handovers
 pub mod Grounds

@@ -1,16 +1,15 @@
 //! A queue for the panel: jobs wait as urgent or ordinary, and each turn takes one.
 #![tactic(auto)]
 
+mod lane;
+
 ghost use Rattle.std.specs.Prelude.{◌≡◌, cond, [], ◌∷◌, ◌++◌, suc, ◌+◌, ◌<◌, drop, length, eqb};
 ghost use Rattle.queue.specs.Jobs.{is_empty, oldest};
 ghost use Rattle.queue.specs.Handing.{HandedOver, FromStart, passes_by_count, Offers, Turns};
 
 use answer::{Ground, Place, Refusal};
-use arrayvec::ArrayVec;
+use lane::{Lane, PLACES, empty};
 use std::marker::Model;
-
-// How many jobs wait together at most.
-const PLACES: usize = 16;
 
 // After so many turns in a row the urgent jobs are passed over.
 const ROW: usize = 3;
@@ -36,10 +35,10 @@ pub struct Taken {
 }
 
 /// The waiting jobs of both kinds, and how many of the last turns in a row took an urgent job while an ordinary one waited.
-#[derive(Debug, Drop)]
+#[derive(Clone, Copy, Debug)]
 pub struct Queue {
-    urgent: ArrayVec<Job, PLACES>,
-    ordinary: ArrayVec<Job, PLACES>,
+    urgent: Lane,
+    ordinary: Lane,
     in_row: usize,
 }
 
@@ -48,40 +47,25 @@ impl Model for Queue {
 
     ghost Value = { QueueView };
 
-    ghost view = { λ q. view_of q.urgent.items q.ordinary.items q.in_row };
+    ghost view = { λ q. view_of q.urgent q.ordinary q.in_row };
 
-    ghost invariant = { λ q. FromStart (view_of q.urgent.items q.ordinary.items q.in_row) };
+    ghost invariant = { λ q. FromStart (view_of q.urgent q.ordinary q.in_row) };
+
+    ghost inverse = { λ v. record { urgent = v.urgent; ordinary = v.ordinary; in_row = v.in_row } };
 }
 
 /// What an offer answers, and the queue that it hands over.
-#[derive(Debug, Drop)]
+#[derive(Clone, Copy, Debug)]
 pub struct Offered {
     pub answer: Result<(), Refusal>,
     pub queue: Queue,
 }
 
 /// What a turn took, and the queue that it hands over.
-#[derive(Debug, Drop)]
+#[derive(Clone, Copy, Debug)]
 pub struct Turned {
     pub taken: Option<Taken>,
     pub queue: Queue,
-}
-
-// Puts a job behind the others of a lane.
-fn put_behind(lane: &mut ArrayVec<Job, PLACES>, job: Job)
-    requires room { length lane.old.items < 16 }
-    ensures { lane.new.items ≡ lane.old.items ++ job ∷ [] }
-{
-    lane.push(job);
-}
-
-// Takes the oldest job of a lane, whose jobs are of this kind.
-fn take_oldest(lane: &mut ArrayVec<Job, PLACES>, kind: Kind) -> Option<Taken>
-    ensures takes { result ≡ oldest kind lane.old.items }
-    ensures leaves { lane.new.items ≡ drop 1 lane.old.items }
-{
-    let job = lane.pop_at(0)?;
-    Some(Taken { kind, job })
 }
 
 /// A queue in which nobody waits.
@@ -91,8 +75,8 @@ pub fn start() -> Queue
     ensures handed { FromStart result }
 {
     Queue {
-        urgent: ArrayVec::new(),
-        ordinary: ArrayVec::new(),
+        urgent: empty(),
+        ordinary: empty(),
         in_row: 0,
     }
 }
@@ -103,13 +87,9 @@ impl Queue {
         ensures same { result ≡ self.now }
         ensures handed { FromStart result }
     {
-        let mut urgent = ArrayVec::new();
-        let mut ordinary = ArrayVec::new();
-        let _ = urgent.try_extend_from_slice(&self.urgent);
-        let _ = ordinary.try_extend_from_slice(&self.ordinary);
         Queue {
-            urgent,
-            ordinary,
+            urgent: self.urgent,
+            ordinary: self.ordinary,
             in_row: self.in_row,
         }
     }
@@ -118,7 +98,7 @@ impl Queue {
     fn is_full(&self) -> bool
         ensures { result ≡ eqb (length self.now.urgent + length self.now.ordinary) 16 }
     {
-        self.urgent.len() + self.ordinary.len() == PLACES
+        self.urgent.count() + self.ordinary.count() == PLACES
     }
 
     // Whether the next turn passes the urgent jobs over: none waits, or the last three turns all took urgent ones while an ordinary one waited.
@@ -149,8 +129,8 @@ impl Queue {
         }
         let job = Job { query, structure };
         match kind {
-            Kind::Urgent => put_behind(&mut self.urgent, job),
-            Kind::Ordinary => put_behind(&mut self.ordinary, job),
+            Kind::Urgent => self.urgent.push(job),
+            Kind::Ordinary => self.ordinary.push(job),
         }
         Ok(())
     }
@@ -162,10 +142,10 @@ impl Queue {
     {
         if self.passes_urgent() {
             self.in_row = 0;
-            return take_oldest(&mut self.ordinary, Kind::Ordinary);
+            return self.ordinary.take_oldest(Kind::Ordinary);
         }
         self.in_row = self.row_after_urgent();
-        take_oldest(&mut self.urgent, Kind::Urgent)
+        self.urgent.take_oldest(Kind::Urgent)
     }
 
     /// Offers a job to a queue by value, and hands the next one over.

@@ -50,7 +50,7 @@ fn kind_at(s: &[u8], at: usize) -> Kind {
 fn offer(queue: &mut Queue, s: &[u8], at: usize) -> Text {
     let query = next(s, at);
     let structure = next(s, query);
-    let offered = queue.copied().offered(
+    let offered = queue.offered(
         kind_at(s, at),
         to_u16(number(s, query)),
         to_u16(number(s, structure)),
@@ -62,7 +62,7 @@ fn offer(queue: &mut Queue, s: &[u8], at: usize) -> Text {
 
 // turn, by value
 fn turn(queue: &mut Queue) -> Text {
-    let turned = queue.copied().turned();
+    let turned = queue.turned();
     let taken = turned.taken;
     *queue = turned.queue;
     with_turn(blank(), taken)
@@ -89,8 +89,8 @@ pub fn called(queue: &mut Queue, s: &[u8], at: usize, times: usize) -> Text {
 
 // Whether two queues let the same be seen: what turns take until nobody waits.
 fn alike(first: &Queue, second: &Queue) -> bool {
-    let mut a = first.copied();
-    let mut b = second.copied();
+    let mut a = *first;
+    let mut b = *second;
     for _ in 0usize..17 {
         if a.take_turn() != b.take_turn() {
             return false;
