@@ -1,15 +1,15 @@
 //! Masks: sets of the numbers 0 to 63, as the bits of a u64.
 #![tactic(auto)]
 
-ghost use Rattle.std.specs.Prelude.{◌≡◌, ◌^◌, ◌<◌};
+ghost use Rattle.std.specs.Prelude.{◌≡◌, ◌^◌, ◌<◌, ◌≤◌};
 ghost use Rattle.masks.specs.Masks.{Highest, minus};
 
-/// The mask of one number.
+/// The mask of one number, and the empty one of a number that no mask can have.
 pub fn bit(number: usize) -> u64
-    requires { number < 64 }
-    ensures { result ≡ 2 ^ number }
+    ensures one { number < 64 → result ≡ 2 ^ number }
+    ensures none { 64 ≤ number → result ≡ 0 }
 {
-    1 << number
+    if number < 64 { 1 << number } else { 0 }
 }
 
 /// The highest number that a mask has, and 0 if it has none.

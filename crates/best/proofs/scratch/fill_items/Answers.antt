@@ -1,5 +1,5 @@
 -- `best::scratch::fill_items`: the item at y has its key.
-use Rattle.std.proofs.Common.{pos, FitsSigned, w32, get_or, rules}
+use Rattle.std.proofs.Common.{pos, FitsSigned, w32, get_or, rules, ◌<◌}
 use mir.Facts.{to_z-of_z}
 use Rattle.best.proofs.Rows.{items_start, item_room, item_small, item_turn}
 use Rattle.best.proofs.scratch.fill_items.Goals as goal
@@ -14,9 +14,12 @@ pub clipped-key-requires-clause-total_few : goal.clipped-key-requires-clause-tot
 clipped-key-requires-clause-total_few c = (item_small _ _ c.requires.posed _ c.requires.room _ c.loop-y-test.true _ c.loop-y.invariant _ _ _ c.fill_row-under.ensures).0
 
 pub clipped-key-requires-clause-mask_fits : goal.clipped-key-requires-clause-mask_fits
-clipped-key-requires-clause-mask_fits c = rw c.bit.ensures (item_small _ _ c.requires.posed _ c.requires.room _ c.loop-y-test.true _ c.loop-y.invariant _ _ _ c.fill_row-under.ensures).1
+clipped-key-requires-clause-mask_fits c =
+    let few : get_or c.args.numbers.now c.loop-y.y 0 < 64 = search rules in
+    rw (c.bit.ensures.one few) (item_small _ _ c.requires.posed _ c.requires.room _ c.loop-y-test.true _ c.loop-y.invariant _ _ _ c.fill_row-under.ensures).1
 
 pub loop-y-preserved : goal.loop-y-preserved
 loop-y-preserved c =
     let fits : FitsSigned w32 (get_or c.args.scores.now (get_or c.args.numbers.now c.loop-y.y 0) (pos 0)) = search rules in
-    item_turn _ _ c.requires.posed _ c.requires.room _ c.loop-y-test.true _ c.loop-y.invariant _ _ _ c.fill_row-under.ensures _ _ _ (rw (to_z-of_z fits, c.bit.ensures) at c.clipped-key.ensures) c.put.ensures
+    let few : get_or c.args.numbers.now c.loop-y.y 0 < 64 = search rules in
+    item_turn _ _ c.requires.posed _ c.requires.room _ c.loop-y-test.true _ c.loop-y.invariant _ _ _ c.fill_row-under.ensures _ _ _ (rw (to_z-of_z fits, c.bit.ensures.one few) at c.clipped-key.ensures) c.put.ensures

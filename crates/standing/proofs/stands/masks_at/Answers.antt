@@ -8,12 +8,12 @@ use Rattle.standing.proofs.Relating.{masks_are}
 use Rattle.standing.proofs.stands.masks_at.Goals as goal
 
 pub loop-rest-init : goal.loop-rest-init
-loop-rest-init c = rw c.bit-rest.ensures (omega arith, omega arith, omega (arith, pow-lt c.requires.place), known_start _ _ _)
+loop-rest-init c = rw (c.bit-rest.ensures.one c.requires.place) (omega arith, omega arith, omega (arith, pow-lt c.requires.place), known_start _ _ _)
 
 pub loop-rest-smaller : goal.loop-rest-smaller
 loop-rest-smaller c =
     let top = c.highest-k.ensures in
-    rw (c.without-rest.ensures, c.bit.ensures) (minus_less _ _ _ c.loop-rest.invariant.2 top.few (top.has c.loop-rest-test.true) (taken_off_with _ _ _))
+    rw (c.without-rest.ensures, c.bit.ensures.one top.few) (minus_less _ _ _ c.loop-rest.invariant.2 top.few (top.has c.loop-rest-test.true) (taken_off_with _ _ _))
 
 pub loop-rest-preserved : goal.loop-rest-preserved
 loop-rest-preserved c =
@@ -21,7 +21,7 @@ loop-rest-preserved c =
       search rules,
       search rules,
       rw c.without-rest.ensures (minus_small _ _),
-      known_with _ _ _ _ _ _ _ c.requires.composed c.loop-rest.invariant.3 (omega (arith, c.requires.place)) _ there _ _ c.stands_to-stand.ensures (ap (λ (s : Pair). s ∷ []) c.last_in.ensures) c.with_seed-masks.ensures (rw c.bit.ensures at c.without-rest.ensures),
+      known_with _ _ _ _ _ _ _ c.requires.composed c.loop-rest.invariant.3 (omega (arith, c.requires.place)) _ there _ _ c.stands_to-stand.ensures (ap (λ (s : Pair). s ∷ []) c.last_in.ensures) c.with_seed-masks.ensures (rw (c.bit.ensures.one c.highest-k.ensures.few) at c.without-rest.ensures),
     )
 
 pub returns : goal.returns
