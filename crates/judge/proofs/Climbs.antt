@@ -1,17 +1,16 @@
 -- Passing the nodes between two listed ones: which of them are in the span, and which are unpaired border nodes.
-use mathlib.Core.Path.{◌≡◌, refl, sym, ap, ◌∙◌}
+use mathlib.Core.Path.{◌≡◌, refl, sym, ap, subst, ◌∙◌}
 use mathlib.Core.Bool.{Bool, true, false, not, ◌&&◌, ◌||◌, true≢false, false≢true}
 use mathlib.Core.Logic.{◌⊎◌, inl, inr}
 use mathlib.Core.List.{List}
 use Prim.Native.Nat.{ℕ, suc, ◌+◌, ◌-◌, ◌≤◌, ◌<◌}
 use native.Mathlib.Omega.{arith}
-use lib.Dec.{eqb}
+use lib.Dec.{eqb, leb}
 use lib.ListN.{length, get_or, set, length-set, take, drop, length-drop}
 use lib.Seq.{length-take-le, get_or-set_same}
+use borrow.Author.Tests.{leb-true, leb-false}
 use Rattle.std.specs.Prelude.{Option, Some, None}
-use Rattle.std.specs.Bool.{MatchBool}
 use Rattle.std.proofs.lemmas.List.{get_or-take, get_or-drop}
-use Rattle.std.specs.List.{HoldsAt, AllWithin}
 use Rattle.tree.specs.Nested.{leaf, In}
 use Rattle.tree.proofs.Leaves.{lt_or_le}
 use Rattle.seed.specs.Seed.{◌∈◌, last_node}
@@ -28,7 +27,28 @@ use Rattle.judge.specs.inner.Steps.Passed.{fine, bare}
 use Rattle.judge.proofs.Rising.{ups_most}
 use Rattle.judge.proofs.Tops.{never, tops_skip, tops_put}
 
--- A look for a subtree that starts early enough.
+-- A scan for a subtree that starts early enough.
+pub reach_start : (l : List ℕ) (a x : ℕ) → Reaching l a a x false
+reach_start l a x = record { some = λ e. absurd (false≢true e); none = λ e y u v. absurd (omega arith) }
+
+pub reach_on : {l : List ℕ} {a y x : ℕ} {r s : Bool} → Reaching l a y x r → a ≤ y → s ≡ (r || leb (get_or l y 0) x) → Reaching l a (y + 1) x s
+unfolding leaf
+reach_on {l = l} {a = a} {y = y} {x = x} {r = true} p h e =
+    record {
+      some = λ d. let w = p.some refl in (w.0, w.1, omega (arith, w.2), w.3);
+      none = λ d z u v. absurd (true≢false (sym e ∙ d));
+    }
+reach_on {l = l} {a = a} {y = y} {x = x} {r = false} p h e =
+    record {
+      some = λ d. (y, h, omega arith, leb-true (get_or l y 0) x (sym e ∙ d));
+      none = λ d z u v.
+          elim (lt_or_le z y) [
+            | inl w ↦ p.none refl z u w
+            | inr w ↦ let g : z ≡ y = omega arith in rw g (leb-false (get_or l y 0) x (sym e ∙ d))
+          ];
+    }
+
+-- A part of the leaves, from one number to another.
 module _ (l : List ℕ) {a b : ℕ} (run : a ≤ b) (within : b ≤ length l) where
   abbrev pub part : List ℕ
   part = take (b - a) (drop a l)
@@ -39,22 +59,12 @@ module _ (l : List ℕ) {a b : ℕ} (run : a ≤ b) (within : b ≤ length l) wh
   part_at : (k : ℕ) → k < b - a → get_or part k 0 ≡ get_or l (a + k) 0
   part_at k h = get_or-take (b - a) (drop a l) k 0 h ∙ get_or-drop a l k 0
 
-  pub reach_by : (x : ℕ) (r : Bool) → MatchBool r ((k : ℕ) × (k < length part) × HoldsAt (λ y. y ≤ x) part k) (AllWithin (λ y. x < y) part 0 (length part)) → Reaching l a b x r
-  unfolding leaf
-  reach_by x true h =
-      record {
-        some = λ e. (a + h.0, omega arith, omega (arith, length_part, h.1), omega (arith, h.2 0, part_at h.0 (omega (arith, length_part, h.1))));
-        none = λ e y u v. absurd (true≢false e);
-      }
-  reach_by x false h =
-      record {
-        some = λ e. absurd (false≢true e);
-        none = λ e y u v.
-            let d : a + (y - a) ≡ y = omega arith in
-            let w : x < get_or part (y - a) 0 = h (y - a) 0 (omega arith) (omega (arith, length_part)) in
-            let z : get_or part (y - a) 0 ≡ get_or l y 0 = part_at (y - a) (omega arith) ∙ ap (λ (k : ℕ). get_or l k 0) d in
-            omega arith;
-      }
+  -- The scan over the part.
+  pub reach_part : {k x : ℕ} {r : Bool} → k < length part → Reaching l a (a + k) x r → Reaching l a (a + (k + 1)) x (r || leb (get_or part k 0) x)
+  reach_part {k} {x} {r} h p =
+      let there : get_or part k 0 ≡ get_or l (a + k) 0 = part_at k (omega (arith, length_part, h)) in
+      let next : a + k + 1 ≡ a + (k + 1) = omega arith in
+      subst (λ y. Reaching l a y x (r || leb (get_or part k 0) x)) next (reach_on p (omega arith) (ap (λ y. r || leb y x) there))
 
 or_true : (b c : Bool) → (b || true || c) ≡ true
 or_true true c = refl

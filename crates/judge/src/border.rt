@@ -44,13 +44,18 @@ fn joined(l: &[u8], tops: &[u8; 256], count: usize, x: usize) -> Option<usize>
     Some(left)
 }
 
-/// Whether the subtree of a node of a run starts at a node or before it.
-fn reaches(l: &[u8], from: usize, to: usize, node: usize) -> bool
+/// Whether the subtree of a node of a run starts at a node or before it. None ends the loop, so that many are looked at in one step.
+fn reaches(l: &[u8], from: usize, to: usize, node: u8) -> bool
     requires run { from ≤ to }
     requires within { to ≤ length l.now }
     ensures { Reaching l.now from to node result }
 {
-    l[from..to].iter().any(|leaf| *leaf as usize <= node)
+    let mut found = false;
+    let run = &l[from..to];
+    for &leaf in run {
+        found |= leaf <= node;
+    }
+    found
 }
 
 /// Passes the unlisted nodes behind the listed node at a place, the last top, up to the next listed one: those above it are in the span.
@@ -69,7 +74,7 @@ fn climb(l: &[u8], xs: &[u8], place: usize, tops: &mut [u8; 256], count: usize) 
         count = left + 1;
         x += 1;
     }
-    if reaches(l, x, next, x - 1) {
+    if reaches(l, x, next, (x - 1) as u8) {
         return None;
     }
     Some(count)
