@@ -1,5 +1,5 @@
 -- What is answered of a text is what its grounds say, and nothing else.
-use mathlib.Core.Path.{◌≡◌, refl, sym, ap, subst, ◌∙◌}
+use mathlib.Core.Path.{◌≡◌, refl, sym, ap, subst, subst⁻¹, ◌∙◌}
 use mathlib.Core.Bool.{Bool, true, false}
 use mathlib.Core.Logic.{⊎_elim, ◌↔◌}
 use Prim.Native.Nat.{ℕ, ◌≤◌, ◌<◌}
@@ -15,7 +15,7 @@ use Rattle.answer.proofs.Denied.{clash}
 use Rattle.answer.proofs.Grounds.{ground, ground_first, ground_never, stops, goes_on}
 use Rattle.tree.specs.Run.{Run, spell}
 use Rattle.character.specs.Character.{role_of}
-use Rattle.tree.specs.Reading.{Meant, OneKind, Spells, Runs, first, runs, Reading, reading, text_answer, bad_length, first_refused, stopped, ground_at, first_other_kind, with_kinds}
+use Rattle.tree.specs.Reading.{Meant, OneKind, Spells, Runs, first, runs, Reading, reading, text_answer, read_of, read_answer, bad_length, first_refused, stopped, ground_at, first_other_kind, with_kinds}
 use Rattle.tree.specs.Reading.Runs.{last, more}
 use Rattle.tree.specs.Reading.Reading.{text_accepted, text_refused}
 use Rattle.tree.specs.Grounds.{UnknownByteAt, Closes, Closed, ClosesNothingAt, NeverClosedAt, LengthRefused, TextSays}
@@ -138,6 +138,14 @@ text_decides s = go (bad_length (length s)) refl
         (λ u. rw (read_fits s h, blind_unknown s u) (goes_on (length_passed s h) (stops (ground_first UnknownByte ByteInQ (refused_first s u)))))
         (known_decides s h)
         (lt_or_le (first_refused s) (length s))
+
+-- So is what reading it answers.
+answers_alike : (x : Reading) → read_answer (read_of x) ≡ text_answer x
+answers_alike (text_accepted r) = refl
+answers_alike (text_refused g k) = refl
+
+pub tree_decides : (s : List ℕ) → Decides (TextSays s) (read_answer (read_of (reading s)))
+tree_decides s = subst⁻¹ (Decides (TextSays s)) (answers_alike (reading s)) (text_decides s)
 
 -- No byte of a run's text is refused.
 pub spell_known : (r : Run) → Meant r → length (spell r) ≤ first_refused (spell r)

@@ -59,6 +59,11 @@ abbrev pub read_of : Reading → Result Tree RefusedText
 read_of (text_accepted r) = Ok (tree_of r)
 read_of (text_refused g k) = Err (record { refusal = refusal_at g (ByteInQ k); tree = tree_of single })
 
+-- What reading answers.
+abbrev pub read_answer : Result Tree RefusedText → Answer
+read_answer (Ok t) = answer.Accepted
+read_answer (Err refused) = answer.Refused refused.refusal.ground refused.refusal.place
+
 -- The tree that is handed over: that of the text, or that of "." beside a refusal.
 abbrev pub tree_in : Result Tree RefusedText → Tree
 tree_in (Ok t) = t
