@@ -11,7 +11,7 @@ use Rattle.dealing.specs.Texts.{both_of, both_read, trees_of}
 use Rattle.dealing.specs.declared.texts.TwoTrees.{TwoTrees}
 use Rattle.dealing.specs.Deal.{Deal, deal_by, deal_answer, deal_of, Deals}
 use Rattle.dealing.specs.declared.Dealt.{Dealt}
-use Rattle.dealing.proofs.BothRead.{are_trees}
+use Rattle.dealing.proofs.BothRead.{both_trees}
 use Rattle.chain.specs.Opening.{Outcome, start_with, opening, deck_opening, Opens, RefusedWith}
 use Rattle.chain.specs.View.{view, Sound}
 use Rattle.chain.specs.declared.Session.{Session}
@@ -53,7 +53,7 @@ module _ (q t : List ℕ) where
     texts_trees = go (both_read q t).answer e
       where
         go : (a : Answer) → Ok both ≡ result_of a (trees_of (both_read q t)) → (IsTree both.q) × (IsTree both.t)
-        go Accepted f = let same : trees_of (both_read q t) ≡ both = cc in subst (λ (b : TwoTrees). (IsTree b.q) × (IsTree b.t)) same (are_trees q t (both_read q t) refl)
+        go Accepted f = let same : trees_of (both_read q t) ≡ both = cc in subst (λ (b : TwoTrees). (IsTree b.q) × (IsTree b.t)) same (both_trees q t)
         go (Refused g p) f = clash (cc)
 
     pub texts_accepted : ◌≡◌ {A = Outcome} (record { answer = Accepted; state = start_with both.q both.t [] }) (opening q t)

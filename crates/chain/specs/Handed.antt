@@ -1,4 +1,4 @@
--- Every session was handed over by an opening or a later call: there are no others of this type.
+-- Every session was handed over by an opening or a later call, or is that of "." and "." beside a refusal: there are no others of this type.
 use Rattle.chain.specs.Fields.{SessionFields}
 use Rattle.chain.specs.View.{Sound}
 use Rattle.chain.specs.declared.Session.TheInside.{Inside}
