@@ -5,4 +5,4 @@ use Rattle.plain.proofs.size.size_of.Given as goal
 
 -- The present seeds passed are counted.
 abbrev pub invariant-loop-i : goal.invariant-loop-i
-invariant-loop-i l = l.size ≡ size_of (present_below l.table l.i)
+invariant-loop-i l = l.size ≡ size_of (present_below l.fn.table l.i)
