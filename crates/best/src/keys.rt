@@ -16,7 +16,11 @@ pub struct Stored {
 pub fn better_of(a: Stored, b: Stored) -> Stored
     ensures { stored result.total result.mask ≡ better (stored a.total a.mask) (stored b.total b.mask) }
 {
-    if a.total < b.total || a.total == b.total && b.mask <= a.mask {
+    if a.total < b.total {
+        b
+    } else if b.total < a.total {
+        a
+    } else if b.mask <= a.mask {
         b
     } else {
         a
