@@ -12,7 +12,8 @@ pub struct Stored {
     pub mask: u64,
 }
 
-/// The better of two keys: the greater total, or of equal totals the smaller mask.
+/// The better of two keys: the greater total, or of equal totals the smaller mask. By branches, since one condition is compiled to more steps for each
+/// pair of seeds.
 pub fn better_of(a: Stored, b: Stored) -> Stored
     ensures { stored result.total result.mask ≡ better (stored a.total a.mask) (stored b.total b.mask) }
 {

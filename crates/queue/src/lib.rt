@@ -87,6 +87,7 @@ impl Queue {
         ensures same { result ≡ self.now }
         ensures handed { FromStart result }
     {
+        // Field by field: so the proof has what holds of every queue.
         Queue {
             urgent: self.urgent,
             ordinary: self.ordinary,
