@@ -12,10 +12,10 @@ use test_words::{Text, blank, with_spaced};
 
 /// What an opening answers and the session that it hands over: beside a refusal that of "." and ".".
 pub fn handed_over(opening: Result<Session, RefusedOpening>) -> Changed {
-    match &opening {
+    match opening {
         Ok(session) => Changed {
             answer: Ok(()),
-            session: *session,
+            session,
         },
         Err(refused) => Changed {
             answer: Err(refused.refusal),
